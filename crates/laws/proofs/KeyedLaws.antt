@@ -61,6 +61,16 @@ module _ {A : Type 0} (T : Keyed A) where
   row-absent d k [] h = refl
   row-absent d k (x ∷ l) h = row-absent-go d k x l (T .eq (T .key x) k) (row-absent d k l) h
 
+  row-all-go : (P : A → Type 0) (d : A) (k : T .Key) (x : A) (l : List A) (t : Bool) → P x → (has T k l ≡ true → P (row T d k l)) →
+      cond t true (has T k l) ≡ true → P (cond t x (row T d k l))
+  row-all-go P d k x l true p ih h = p
+  row-all-go P d k x l false p ih h = ih h
+
+  -- what holds of each row holds of the one that is found
+  pub row-all : (P : A → Type 0) (d : A) (k : T .Key) (l : List A) → All P l → has T k l ≡ true → P (row T d k l)
+  row-all P d k [] a h = absurd (never false h refl)
+  row-all P d k (x ∷ l) a h = row-all-go P d k x l (T .eq (T .key x) k) (a .0) (row-all P d k l (a .1)) h
+
   all-put-go : (P : A → Type 0) (r x : A) (l : List A) (t u : Bool) → P r → P x → All P l → All P (put T r l) →
       All P (cond t (r ∷ x ∷ l) (cond u (r ∷ l) (x ∷ put T r l)))
   all-put-go P r x l true u p q a b = (p, (q, a))

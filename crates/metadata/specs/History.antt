@@ -6,7 +6,7 @@ use mathlib.Core.Bool.{Bool, true, false, not, cond}
 use mathlib.Core.List.{List, [], _∷_, map}
 use lib.Dec.{eqb}
 use Rattle.laws.specs.Keyed.{Keyed, before}
-use Rattle.laws.specs.Lists.{any}
+use Rattle.laws.specs.Lists.{any, without}
 use Rattle.laws.specs.Rows.{insertBy}
 use Rattle.metadata.specs.Texts.{noName}
 use Rattle.metadata.specs.Answers.{isApplied}
@@ -87,8 +87,7 @@ isRegistered k = any (λ (n : NodeDescriptor). eqb (n .«node_id» .0) k)
 
 -- the placements of every other tablet
 abbrev pub others : ℕ → List DesiredReplicaPlacement → List DesiredReplicaPlacement
-others k [] = []
-others k (p ∷ l) = cond (eqb (p .«tablet_id» .0) k) (others k l) (p ∷ others k l)
+others k = without (λ (p : DesiredReplicaPlacement). eqb (p .«tablet_id» .0) k)
 
 -- "naming sets the name"
 abbrev pub named : Name → History → History
