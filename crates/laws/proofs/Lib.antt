@@ -1,2 +1,3 @@
 pub mod ListLaws
 pub mod KeyedLaws
+pub mod Tests

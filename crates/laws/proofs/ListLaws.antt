@@ -74,3 +74,6 @@ module _ {A : Type 0} (p : A → Bool) where
   unfolding any
   any-none [] e = tt
   any-none (x ∷ l) e = let g = or-false (p x) (any p l) e in (g .0, any-none l (g .1))
+
+pub every-imp : {A : Type 0} (p q : A → Bool) (l : List A) → ((x : A) → p x ≡ true → q x ≡ true) → every p l ≡ true → every q l ≡ true
+every-imp p q l f e = all-every q l (all-map l f (every-all p l e))

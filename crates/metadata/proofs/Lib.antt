@@ -1,3 +1,4 @@
 pub mod AnswerLaws
 pub mod Ranges
 pub mod Guards
+pub mod AdmittedRows

@@ -6,6 +6,7 @@ use lib.Dec.{leb, ltb, eqb}
 use lib.ListN.{length, take, drop}
 use Rattle.laws.specs.Bytes.{isZero}
 use Rattle.laws.specs.Lists.{every, any, noneTwice}
+use Rattle.laws.specs.Tests.{allOf}
 use Rattle.metadata.specs.Rooms.{tableRoom, replicaRoom, keyWidth}
 use Rattle.metadata.specs.Ranges.{admittedb}
 use Rattle.metadata.specs.Texts.{
@@ -53,8 +54,13 @@ namingFaults t = fault 2 (not (nameAdmitted t)) ∷ []
 
 unfoldable pub nodeTextsAdmitted : NodeDescriptor → Bool
 nodeTextsAdmitted n =
-    every endpointAdmitted (endpoints n)
-    && (optionalAdmitted (n .region) && (optionalAdmitted (n .zone) && (optionalAdmitted (n .rack) && labelAdmitted (n .«storage_class»))))
+    allOf
+    (every endpointAdmitted (endpoints n)
+    ∷ optionalAdmitted (n .region)
+    ∷ optionalAdmitted (n .zone)
+    ∷ optionalAdmitted (n .rack)
+    ∷ labelAdmitted (n .«storage_class»)
+    ∷ [])
 
 -- 3 "two equal endpoints in a node"; 4 "storage class .. empty or all spaces"; 5 "lifecycle above 4"
 abbrev pub nodeFaults : NodeDescriptor → List Fault
@@ -76,8 +82,8 @@ isZeroKey k = isZeroText keyWidth (k .len) (k .bytes)
 unfoldable pub partitionAdmitted : PartitionSpec → Bool
 partitionAdmitted q =
     cond (isZero (q .kind))
-    (ltb (q .bucket) (q .«bucket_count») && (isZeroKey (q .«start_key») && isZeroKey (q .«end_key»)))
-    (admittedb (keyText (q .«start_key»)) (keyText (q .«end_key»)) && (isZero (q .bucket) && isZero (q .«bucket_count»)))
+    (allOf (ltb (q .bucket) (q .«bucket_count») ∷ isZeroKey (q .«start_key») ∷ isZeroKey (q .«end_key») ∷ []))
+    (allOf (admittedb (keyText (q .«start_key»)) (keyText (q .«end_key»)) ∷ isZero (q .bucket) ∷ isZero (q .«bucket_count») ∷ []))
 
 abbrev pub tabletFaults : TabletDescriptor → List Fault
 tabletFaults t =
@@ -99,24 +105,33 @@ sameId a b = eqb (a .0) (b .0)
 -- 7 "replica count outside 1 to 7, replication factor not equal to it, a replica or node id twice, unused places not zero"
 unfoldable pub replicasAdmitted : DesiredReplicaPlacement → Bool
 replicasAdmitted p =
-    leb 1 (p .«replica_count»)
-    && (leb (p .«replica_count») replicaRoom
-    && (eqb (p .«placement_policy» .«replication_factor») (p .«replica_count»)
-    && (noneTwice sameReplicaId (desired p)
-    && (noneTwice sameHost (desired p) && every isZeroReplica (drop (p .«replica_count») (p .replicas))))))
+    allOf
+    (leb 1 (p .«replica_count»)
+    ∷ leb (p .«replica_count») replicaRoom
+    ∷ eqb (p .«placement_policy» .«replication_factor») (p .«replica_count»)
+    ∷ noneTwice sameReplicaId (desired p)
+    ∷ noneTwice sameHost (desired p)
+    ∷ every isZeroReplica (drop (p .«replica_count») (p .replicas))
+    ∷ [])
 
 -- 8 "a minimum above the factor"
 unfoldable pub minimaAdmitted : PlacementPolicy → Bool
 minimaAdmitted q =
-    leb (q .«min_distinct_regions») (q .«replication_factor»)
-    && (leb (q .«min_distinct_zones») (q .«replication_factor») && leb (q .«min_distinct_racks») (q .«replication_factor»))
+    allOf
+    (leb (q .«min_distinct_regions») (q .«replication_factor»)
+    ∷ leb (q .«min_distinct_zones») (q .«replication_factor»)
+    ∷ leb (q .«min_distinct_racks») (q .«replication_factor»)
+    ∷ [])
 
 -- 9 "over 7 preferred leaders, one zero or twice, unused places not zero"
 unfoldable pub leadersAdmitted : PlacementPolicy → Bool
 leadersAdmitted q =
-    leb (q .«preferred_leader_count») replicaRoom
-    && (not (any isZeroId (leaders q))
-    && (noneTwice sameId (leaders q) && every isZeroId (drop (q .«preferred_leader_count») (q .«preferred_leader_nodes»))))
+    allOf
+    (leb (q .«preferred_leader_count») replicaRoom
+    ∷ not (any isZeroId (leaders q))
+    ∷ noneTwice sameId (leaders q)
+    ∷ every isZeroId (drop (q .«preferred_leader_count») (q .«preferred_leader_nodes»))
+    ∷ [])
 
 -- 4 "a present required class, empty or all spaces"
 unfoldable pub classBlank : PlacementPolicy → Bool
@@ -139,13 +154,18 @@ placementFaults p =
 abbrev pub retirementFaults : RetiredReplicaLifetime → List Fault
 retirementFaults x = fault 1 (isZero (x .«raft_group_id» .0) || isZero (x .«replica_id» .0)) ∷ []
 
+abbrev pub sameTableId : TableRow → TableRow → Bool
+sameTableId a b = eqb (a .«table_id» .0) (b .«table_id» .0)
+
 -- "10 (the opening's only reason) over 16 tables, a table id zero or twice, a tablet count zero"
 unfoldable pub openingAdmitted : List TableRow → Bool
 openingAdmitted tables =
-    leb (length tables) tableRoom
-    && (not (any (λ (t : TableRow). isZero (t .«table_id» .0)) tables)
-    && (noneTwice (λ (a b : TableRow). eqb (a .«table_id» .0) (b .«table_id» .0)) tables
-    && not (any (λ (t : TableRow). isZero (t .«tablet_count»)) tables)))
+    allOf
+    (leb (length tables) tableRoom
+    ∷ not (any (λ (t : TableRow). isZero (t .«table_id» .0)) tables)
+    ∷ noneTwice sameTableId tables
+    ∷ not (any (λ (t : TableRow). isZero (t .«tablet_count»)) tables)
+    ∷ [])
 
 abbrev pub faults : Command → List Fault
 faults (naming t) = namingFaults t
