@@ -8,7 +8,7 @@ use lib.ListN.{length, getD, set}
 use Rattle.laws.specs.Keyed.{Keyed, look, has, row, put, before, Above, Rising}
 use Rattle.laws.specs.Lists.{All, Apart, without}
 use Rattle.laws.specs.Rows.{insertBy, rising, risingAfter}
-use Rattle.laws.proofs.ListLaws.{never, is-false, all-map, and-left, and-right, and-i}
+use Rattle.laws.proofs.ListLaws.{never, is-false, all-map, all-both, and-left, and-right, and-i}
 
 module _ {A : Type 0} (T : Keyed A) where
   eq-ne : (a b : T .Key) → T .eq a b ≡ false → a ≡ b → ⊥
@@ -207,6 +207,27 @@ module _ {A : Type 0} (T : Keyed A) (R : A → A → Type 0) (turn : (x y : A) �
   apart-put r [] n a c = (tt, tt)
   apart-put r (x ∷ l) n a c =
       apart-go r x l (T .lt (T .key r) (T .key x)) (T .eq (T .key x) (T .key r)) refl n (a .0) (a .1) (c .0) (c .1) (λ m. apart-put r l m (a .1) (c .1))
+
+-- ---- rows that need not rise
+module _ {A : Type 0} (T : Keyed A) where
+  absent-go : (k : T .Key) (x : A) (l : List A) (t : Bool) → T .eq (T .key x) k ≡ t → cond t true (has T k l) ≡ false → (T .eq (T .key x) k ≡ false) × (has T k l ≡ false)
+  absent-go k x l true e h = absurd (never true refl h)
+  absent-go k x l false e h = (e, h)
+
+  -- where a key is not found no row has it
+  pub absent-all : (k : T .Key) (l : List A) → has T k l ≡ false → All (λ (x : A). T .eq (T .key x) k ≡ false) l
+  absent-all k [] h = tt
+  absent-all k (x ∷ l) h = let g = absent-go k x l (T .eq (T .key x) k) refl h in (g .0, absent-all k l (g .1))
+
+  -- where no two rows have the same key, each is the one that is found under it
+  pub apart-found : (d : A) (l : List A) → Apart (λ (x y : A). T .eq (T .key x) (T .key y) ≡ false) l → All (λ (x : A). row T d (T .key x) l ≡ x) l
+  apart-found d [] a = tt
+  apart-found d (x ∷ l) a = (
+    rw (T .eq-same (T .key x)),
+    all-map l
+        (λ (y : A) (h : (T .eq (T .key x) (T .key y) ≡ false) × (row T d (T .key y) l ≡ y)). rw (h .0) (h .1))
+        (all-both (λ (y : A). T .eq (T .key x) (T .key y) ≡ false) (λ (y : A). row T d (T .key y) l ≡ y) l (a .0) (apart-found d l (a .1))),
+  )
 
 -- ---- the same table in other words
 module _ {A : Type 0} (T : Keyed A) where

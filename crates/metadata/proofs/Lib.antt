@@ -2,3 +2,9 @@ pub mod AnswerLaws
 pub mod Ranges
 pub mod Guards
 pub mod AdmittedRows
+pub mod Soundness
+pub mod Links
+pub mod Copies
+pub mod Epochs
+pub mod Unretired
+pub mod Disjoint
