@@ -8,3 +8,5 @@ pub mod Copies
 pub mod Epochs
 pub mod Unretired
 pub mod Disjoint
+pub mod ZeroRows
+pub mod Packed

@@ -1,0 +1,251 @@
+-- A sound store is its rows packed, and packed rows that are sound are a sound store: `pack-view`, `view-sound`, `pack-sound`. Assumes nothing.
+use Prim.Native.Nat.{ℕ, zero, suc, _-_, _≤_}
+use native.Mathlib.Omega.{arith}
+use mathlib.Core.Path.{_≡_, refl, ap, sym, subst, _∙_}
+use mathlib.Core.Bool.{Bool, true, false}
+use mathlib.Core.List.{List, [], _∷_, _++_}
+use lib.Dec.{eqb, leb}
+use lib.ListN.{length, take, drop, replicate, length-append, length-replicate, length-drop, take-append-drop}
+use lib.Seq.{length-take-le, take-append-seam, drop-append-seam}
+use borrow.Author.Tests.{eqb-true, leb-true, eq-eqb, le-leb}
+use Rattle.laws.specs.Keyed.{Keyed, before, Rising}
+use Rattle.laws.specs.Lists.{every, All}
+use Rattle.laws.specs.Rows.{rising}
+use Rattle.laws.proofs.ListLaws.{and-i, every-all, all-every, all-map}
+use Rattle.laws.proofs.Tests.{each-of, all-of}
+use Rattle.laws.proofs.KeyedLaws.{rising-true, rising-pass}
+use Rattle.metadata.specs.Rooms.{nodeRoom, tableRoom, tabletRoom, retirementRoom}
+use Rattle.metadata.specs.Tables.{
+  nodeKey, tableKey, tabletKey, placementKey, retirementKey, desired, isZeroNode, isZeroTable, isZeroTablet, isZeroPlacement, isZeroRetirement, zeroNode, zeroTable,
+  zeroTablet, zeroPlacement, zeroRetirement,
+}
+use Rattle.metadata.specs.Model.{StoreRows, DirectoryRows, CatalogRows, padded, view, viewDirectory, viewCatalog, pack, packDirectory, packCatalog}
+use Rattle.metadata.specs.Sound.{soundNode, soundTablet, soundPlacement, soundTable, replicasBelow, soundMarks, soundDirectory, soundCatalog, sound}
+use Rattle.metadata.specs.declared.NodeDescriptor.{NodeDescriptor}
+use Rattle.metadata.specs.declared.TabletDescriptor.{TabletDescriptor}
+use Rattle.metadata.specs.declared.TableRow.{TableRow}
+use Rattle.metadata.specs.declared.DesiredReplica.{DesiredReplica}
+use Rattle.metadata.specs.declared.DesiredReplicaPlacement.{DesiredReplicaPlacement}
+use Rattle.metadata.specs.declared.Nodes.{Nodes}
+use Rattle.metadata.specs.declared.Tables.{Tables}
+use Rattle.metadata.specs.declared.Tablets.{Tablets}
+use Rattle.metadata.specs.declared.Placements.{Placements}
+use Rattle.metadata.specs.declared.Retirements.{Retirements}
+use Rattle.metadata.specs.declared.Directory.{Directory}
+use Rattle.metadata.specs.declared.Catalog.{Catalog}
+use Rattle.metadata.specs.declared.Store.{Store}
+use Rattle.metadata.proofs.ZeroRows.{
+  every-zero, zero-node, zero-table, zero-tablet, zero-placement, zero-retirement, node-passes, table-passes, tablet-passes, placement-passes, retirement-passes,
+}
+use Rattle.metadata.proofs.Soundness.{DirectorySound, CatalogSound, RowsSound}
+
+-- ---- one table, of any row type
+
+module _ {A : Type 0} (key : Keyed A) (isZeroRow : A → Bool) (z : A) (room : ℕ) where
+  pub record Table (count : ℕ) (rows : List A) : Type 0 where
+    pub wide : length rows ≡ room
+    pub within : count ≤ room
+    pub rising : Rising key (take count rows)
+    pub clear : every isZeroRow (drop count rows) ≡ true
+
+  pub table-true : (count : ℕ) (rows : List A) → soundTable key isZeroRow room count rows ≡ true → Table count rows
+  unfolding soundTable
+  table-true count rows e =
+      let g = each-of _ e in
+      record { wide = eqb-true _ _ (g .0); within = leb-true _ _ (g .1 .0); rising = rising-true key (take count rows) (g .1 .1 .0); clear = g .1 .1 .1 .0 }
+
+  pub counted : (count : ℕ) (rows : List A) → Table count rows → length (take count rows) ≡ count
+  counted count rows t = length-take-le count rows (omega (arith, t .wide, t .within))
+
+  -- the rows are those in use and the zero rows
+  pub padded-rows : (count : ℕ) (rows : List A) → ((x : A) → isZeroRow x ≡ true → x ≡ z) → Table count rows → rows ≡ padded z room (take count rows)
+  padded-rows count rows f t =
+      let e : length (drop count rows) ≡ room - length (take count rows) = omega (arith, length-drop count rows, t .wide, counted count rows t) in
+      sym (take-append-drop count rows)
+      ∙ ap (λ (l : List A). take count rows ++ l) (every-zero isZeroRow z f (drop count rows) (t .clear) ∙ ap (λ (n : ℕ). replicate n z) e)
+
+  zero-pass : isZeroRow z ≡ true → (n : ℕ) → every isZeroRow (replicate n z) ≡ true
+  zero-pass e zero = refl
+  zero-pass e (suc n) = and-i (isZeroRow z) _ e (zero-pass e n)
+
+  pub table-pass : (l : List A) → isZeroRow z ≡ true → length l ≤ room → Rising key l → soundTable key isZeroRow room (length l) (padded z room l) ≡ true
+  unfolding soundTable
+  table-pass l e h r =
+      all-of _ (
+        eq-eqb _ _ (length-append l (replicate (room - length l) z) ∙ omega (arith, length-replicate (room - length l) z)),
+        (
+          le-leb _ _ h,
+          (rw take-append-seam (rising-pass key l r), (rw drop-append-seam (zero-pass e (room - length l)), tt)),
+        ),
+      )
+
+-- ---- a sound store's rows
+
+marks-true : (c : CatalogRows) → soundMarks c ≡ true →
+    All (λ (t : TableRow). t .«table_id» .0 ≤ c .marks .«max_table_id») (c .tables)
+    × (All (λ (t : TabletDescriptor). t .«tablet_id» .0 ≤ c .marks .«max_tablet_id») (c .tablets)
+    × (All (λ (t : TabletDescriptor). t .«raft_group_id» .0 ≤ c .marks .«max_raft_group_id») (c .tablets)
+    × All (λ (p : DesiredReplicaPlacement). All (λ (r : DesiredReplica). r .«replica_id» .0 ≤ c .marks .«max_replica_id») (desired p)) (c .placements)))
+unfolding soundMarks
+marks-true c e =
+    let g = each-of _ e in
+    (
+      all-map (c .tables) (λ t h. leb-true _ _ h) (every-all _ (c .tables) (g .0)),
+      (
+        all-map (c .tablets) (λ t h. leb-true _ _ h) (every-all _ (c .tablets) (g .1 .0)),
+        (
+          all-map (c .tablets) (λ t h. leb-true _ _ h) (every-all _ (c .tablets) (g .1 .1 .0)),
+          all-map (c .placements) (λ p h. all-map (desired p) (λ r f. leb-true _ _ f) (every-all _ (desired p) h)) (every-all _ (c .placements) (g .1 .1 .1 .0)),
+        ),
+      ),
+    )
+
+directory-true : (d : Directory) → soundDirectory d ≡ true → DirectorySound (viewDirectory d)
+unfolding soundDirectory
+directory-true d e =
+    let g = each-of _ e in
+    let n = table-true nodeKey isZeroNode zeroNode nodeRoom (d .nodes .count) (d .nodes .rows) (g .1 .0) in
+    record {
+      name = g .0;
+      nodes = n .rising;
+      node-room = omega (arith, counted nodeKey isZeroNode zeroNode nodeRoom _ _ n, n .within);
+      node-rows = every-all soundNode (viewDirectory d .nodes) (g .1 .1 .0);
+    }
+
+catalog-true : (c : Catalog) → soundCatalog c ≡ true → CatalogSound (viewCatalog c)
+unfolding soundCatalog
+catalog-true c e =
+    let g = each-of _ e in
+    let a = table-true tableKey isZeroTable zeroTable tableRoom (c .tables .count) (c .tables .rows) (g .0) in
+    let t = table-true tabletKey isZeroTablet zeroTablet tabletRoom (c .tablets .count) (c .tablets .rows) (g .1 .0) in
+    let p = table-true placementKey isZeroPlacement zeroPlacement tabletRoom (c .placements .count) (c .placements .rows) (g .1 .1 .1 .0) in
+    let x = table-true retirementKey isZeroRetirement zeroRetirement retirementRoom (c .retirements .count) (c .retirements .rows) (g .1 .1 .1 .1 .1 .0) in
+    let m = marks-true (viewCatalog c) (g .1 .1 .1 .1 .1 .1 .0) in
+    record {
+      tables = a .rising;
+      table-room = omega (arith, counted tableKey isZeroTable zeroTable tableRoom _ _ a, a .within);
+      tablets = t .rising;
+      tablet-room = omega (arith, counted tabletKey isZeroTablet zeroTablet tabletRoom _ _ t, t .within);
+      tablet-rows = every-all soundTablet (viewCatalog c .tablets) (g .1 .1 .0);
+      placements = p .rising;
+      placement-room = omega (arith, counted placementKey isZeroPlacement zeroPlacement tabletRoom _ _ p, p .within);
+      placement-rows = every-all soundPlacement (viewCatalog c .placements) (g .1 .1 .1 .1 .0);
+      retirements = x .rising;
+      retirement-room = omega (arith, counted retirementKey isZeroRetirement zeroRetirement retirementRoom _ _ x, x .within);
+      table-mark = m .0;
+      tablet-mark = m .1 .0;
+      group-mark = m .1 .1 .0;
+      replica-mark = m .1 .1 .1;
+    }
+
+pub view-sound : (s : Store) → sound s ≡ true → RowsSound (view s)
+unfolding sound
+view-sound s e =
+    let g = each-of _ e in
+    record { directory = directory-true (s .directory) (g .0); catalog = catalog-true (s .catalog) (g .1 .0) }
+
+-- ---- and back
+
+pub view-pack : (m : StoreRows) → view (pack m) ≡ m
+view-pack m = simp take-append-seam
+
+view-catalog : (c : CatalogRows) → viewCatalog (packCatalog c) ≡ c
+view-catalog c = simp take-append-seam
+
+marks-pass : (c : CatalogRows) → CatalogSound c → soundMarks c ≡ true
+unfolding soundMarks
+marks-pass c o =
+    all-of _ (
+      all-every _ (c .tables) (all-map (c .tables) (λ t h. le-leb _ _ h) (o .table-mark)),
+      (
+        all-every _ (c .tablets) (all-map (c .tablets) (λ t h. le-leb _ _ h) (o .tablet-mark)),
+        (
+          all-every _ (c .tablets) (all-map (c .tablets) (λ t h. le-leb _ _ h) (o .group-mark)),
+          (all-every _ (c .placements) (all-map (c .placements) (λ p h. all-every _ (desired p) (all-map (desired p) (λ r f. le-leb _ _ f) h)) (o .replica-mark)), tt),
+        ),
+      ),
+    )
+
+rows-pass : {A : Type 0} (p : A → Bool) (z : A) (room : ℕ) (l : List A) → All (λ (x : A). p x ≡ true) l → every p (take (length l) (padded z room l)) ≡ true
+rows-pass p z room l a = rw take-append-seam (all-every p l a)
+
+directory-pass : (d : DirectoryRows) → DirectorySound d → soundDirectory (packDirectory d) ≡ true
+unfolding soundDirectory
+directory-pass d o =
+    all-of _ (
+      o .name,
+      (
+        table-pass nodeKey isZeroNode zeroNode nodeRoom (d .nodes) node-passes (o .node-room) (o .nodes),
+        (rows-pass soundNode zeroNode nodeRoom (d .nodes) (o .node-rows), tt),
+      ),
+    )
+
+catalog-pass : (c : CatalogRows) → CatalogSound c → soundCatalog (packCatalog c) ≡ true
+unfolding soundCatalog
+catalog-pass c o =
+    all-of _ (
+      table-pass tableKey isZeroTable zeroTable tableRoom (c .tables) table-passes (o .table-room) (o .tables),
+      (
+        table-pass tabletKey isZeroTablet zeroTablet tabletRoom (c .tablets) tablet-passes (o .tablet-room) (o .tablets),
+        (
+          rows-pass soundTablet zeroTablet tabletRoom (c .tablets) (o .tablet-rows),
+          (
+            table-pass placementKey isZeroPlacement zeroPlacement tabletRoom (c .placements) placement-passes (o .placement-room) (o .placements),
+            (
+              rows-pass soundPlacement zeroPlacement tabletRoom (c .placements) (o .placement-rows),
+              (
+                table-pass retirementKey isZeroRetirement zeroRetirement retirementRoom (c .retirements) retirement-passes (o .retirement-room) (o .retirements),
+                (subst (λ (x : CatalogRows). soundMarks x ≡ true) (sym (view-catalog c)) (marks-pass c o), tt),
+              ),
+            ),
+          ),
+        ),
+      ),
+    )
+
+pub pack-sound : (m : StoreRows) → RowsSound m → sound (pack m) ≡ true
+unfolding sound
+pack-sound m o = all-of _ (directory-pass (m .directory) (o .directory), (catalog-pass (m .catalog) (o .catalog), tt))
+
+-- ---- a sound store is its rows packed
+
+same-directory : (d : Directory) → soundDirectory d ≡ true → packDirectory (viewDirectory d) ≡ d
+unfolding soundDirectory
+same-directory d e =
+    let t = table-true nodeKey isZeroNode zeroNode nodeRoom (d .nodes .count) (d .nodes .rows) (each-of _ e .1 .0) in
+    let p = counted nodeKey isZeroNode zeroNode nodeRoom _ _ t in
+    let q = sym (padded-rows nodeKey isZeroNode zeroNode nodeRoom _ _ zero-node t) in
+    λ i. record { «cluster_id» = d .«cluster_id»; nodes = record { count = p i; rows = q i } }
+
+same-catalog : (c : Catalog) → soundCatalog c ≡ true → packCatalog (viewCatalog c) ≡ c
+unfolding soundCatalog
+same-catalog c e =
+    let g = each-of _ e in
+    let a = table-true tableKey isZeroTable zeroTable tableRoom (c .tables .count) (c .tables .rows) (g .0) in
+    let t = table-true tabletKey isZeroTablet zeroTablet tabletRoom (c .tablets .count) (c .tablets .rows) (g .1 .0) in
+    let p = table-true placementKey isZeroPlacement zeroPlacement tabletRoom (c .placements .count) (c .placements .rows) (g .1 .1 .1 .0) in
+    let x = table-true retirementKey isZeroRetirement zeroRetirement retirementRoom (c .retirements .count) (c .retirements .rows) (g .1 .1 .1 .1 .1 .0) in
+    let a1 = counted tableKey isZeroTable zeroTable tableRoom _ _ a in
+    let a2 = sym (padded-rows tableKey isZeroTable zeroTable tableRoom _ _ zero-table a) in
+    let t1 = counted tabletKey isZeroTablet zeroTablet tabletRoom _ _ t in
+    let t2 = sym (padded-rows tabletKey isZeroTablet zeroTablet tabletRoom _ _ zero-tablet t) in
+    let p1 = counted placementKey isZeroPlacement zeroPlacement tabletRoom _ _ p in
+    let p2 = sym (padded-rows placementKey isZeroPlacement zeroPlacement tabletRoom _ _ zero-placement p) in
+    let x1 = counted retirementKey isZeroRetirement zeroRetirement retirementRoom _ _ x in
+    let x2 = sym (padded-rows retirementKey isZeroRetirement zeroRetirement retirementRoom _ _ zero-retirement x) in
+    λ i.
+    record {
+      tables = record { count = a1 i; rows = a2 i };
+      tablets = record { count = t1 i; rows = t2 i };
+      placements = record { count = p1 i; rows = p2 i };
+      retirements = record { count = x1 i; rows = x2 i };
+      marks = c .marks;
+    }
+
+pub pack-view : (s : Store) → sound s ≡ true → pack (view s) ≡ s
+unfolding sound
+pack-view s e =
+    let g = each-of _ e in
+    let d = same-directory (s .directory) (g .0) in
+    let c = same-catalog (s .catalog) (g .1 .0) in
+    λ i. record { directory = d i; catalog = c i }
