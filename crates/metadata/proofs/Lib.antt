@@ -10,3 +10,4 @@ pub mod Unretired
 pub mod Disjoint
 pub mod ZeroRows
 pub mod Packed
+pub mod Retold

@@ -11,6 +11,7 @@ use Rattle.laws.specs.Lists.{All}
 use Rattle.laws.proofs.ListLaws.{all-map, cond-holds}
 use Rattle.laws.proofs.KeyedLaws.{rising-put, row-key, row-all, all-put, length-put-old, length-put-new}
 use Rattle.metadata.specs.Rooms.{nodeRoom, tableRoom, tabletRoom, retirementRoom}
+use Rattle.metadata.specs.Marks.{highest}
 use Rattle.metadata.specs.Texts.{optionalNameFits}
 use Rattle.metadata.specs.Answers.{isApplied}
 use Rattle.metadata.specs.Tables.{nodeKey, tableKey, tabletKey, placementKey, retirementKey, nodeOf, blankNode, desired}
@@ -105,16 +106,13 @@ registered-sound s n e f o =
 
 -- ---- the catalog
 
-highest-mark : (l : List DesiredReplica) (m : ℕ) → m ≤ highestReplica l m
-highest-mark [] m = omega arith
-highest-mark (r ∷ l) m = omega (arith, highest-mark l (max m (r .«replica_id» .0)), le-max-left m (r .«replica_id» .0))
+pub highest-mark : {A : Type 0} (f : A → ℕ) (l : List A) (m : ℕ) → m ≤ highest f l m
+highest-mark f [] m = omega arith
+highest-mark f (x ∷ l) m = omega (arith, highest-mark f l (max m (f x)), le-max-left m (f x))
 
-highest-all : (l : List DesiredReplica) (m : ℕ) → All (λ (r : DesiredReplica). r .«replica_id» .0 ≤ highestReplica l m) l
-highest-all [] m = tt
-highest-all (r ∷ l) m = (
-  omega (arith, highest-mark l (max m (r .«replica_id» .0)), le-max-right m (r .«replica_id» .0)),
-  highest-all l (max m (r .«replica_id» .0)),
-)
+pub highest-all : {A : Type 0} (f : A → ℕ) (l : List A) (m : ℕ) → All (λ (x : A). f x ≤ highest f l m) l
+highest-all f [] m = tt
+highest-all f (x ∷ l) m = (omega (arith, highest-mark f l (max m (f x)), le-max-right m (f x)), highest-all f l (max m (f x)))
 
 -- what lies at most at a mark lies at most at a higher one
 raised : {A : Type 0} (f : A → ℕ) (m n : ℕ) (l : List A) → m ≤ n → All (λ (x : A). f x ≤ m) l → All (λ (x : A). f x ≤ n) l
@@ -170,10 +168,10 @@ placed-sound s p e f o =
       group-mark = o .group-mark;
       replica-mark =
           all-put placementKey (λ (x : DesiredReplicaPlacement). All (λ (r : DesiredReplica). r .«replica_id» .0 ≤ n) (desired x)) p l
-          (highest-all (desired p) m)
+          (highest-all (λ (r : DesiredReplica). r .«replica_id» .0) (desired p) m)
           (all-map l
           (λ (x : DesiredReplicaPlacement) (a : All (λ (r : DesiredReplica). r .«replica_id» .0 ≤ m) (desired x)).
-          raised (λ (r : DesiredReplica). r .«replica_id» .0) m n (desired x) (highest-mark (desired p) m) a)
+          raised (λ (r : DesiredReplica). r .«replica_id» .0) m n (desired x) (highest-mark (λ (r : DesiredReplica). r .«replica_id» .0) (desired p) m) a)
           (o .replica-mark));
     }
 

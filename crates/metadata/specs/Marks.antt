@@ -1,6 +1,7 @@
 -- The four marks (document 01, port item 1). Assumes nothing.
 use Prim.Native.Nat.{ℕ, _+_, _-_, _^_, max}
 use mathlib.Core.Bool.{Bool, cond}
+use mathlib.Core.List.{List, [], _∷_}
 use lib.Dec.{eqb}
 use Rattle.metadata.specs.declared.MetadataAllocatorState.{MetadataAllocatorState}
 use Rattle.metadata.specs.declared.NextReplicaId.{NextReplicaId}
@@ -18,3 +19,8 @@ markLimit = 2 ^ 64 - 1
 -- "`next_replica_id` is mark plus one, none at 2^64 - 1"
 abbrev pub nextReplicaId : MetadataAllocatorState → NextReplicaId
 nextReplicaId m = cond (eqb (m .«max_replica_id») markLimit) Exhausted (Next (record { 0 = m .«max_replica_id» + 1 }))
+
+-- "each to the largest seen": the mark m, raised by the number of each element
+abbrev pub highest : {A : Type 0} → (A → ℕ) → List A → ℕ → ℕ
+highest f [] m = m
+highest f (x ∷ l) m = highest f l (max m (f x))

@@ -6,6 +6,7 @@ use lib.Dec.{eqb}
 use lib.ListN.{length, take, replicate}
 use Rattle.laws.specs.Keyed.{put}
 use Rattle.metadata.specs.Rooms.{nodeRoom, tableRoom, tabletRoom, retirementRoom}
+use Rattle.metadata.specs.Marks.{highest}
 use Rattle.metadata.specs.Answers.{isApplied, _⊳_, refuse}
 use Rattle.metadata.specs.Tables.{
   nodeKey, tabletKey, placementKey, retirementKey, desired, zeroNode, zeroTable, zeroTablet, zeroPlacement, zeroRetirement,
@@ -84,8 +85,7 @@ raisedByTablet t m =
     }
 
 abbrev pub highestReplica : List DesiredReplica → ℕ → ℕ
-highestReplica [] m = m
-highestReplica (r ∷ l) m = highestReplica l (max m (r .«replica_id» .0))
+highestReplica = highest (λ r. r .«replica_id» .0)
 
 -- "an Applied placement the replica mark"
 abbrev pub raisedByPlacement : DesiredReplicaPlacement → MetadataAllocatorState → MetadataAllocatorState

@@ -1,11 +1,11 @@
 -- The opening (document 01, "Room and admission"). Assumes nothing.
-use Prim.Native.Nat.{ℕ, max}
+use Prim.Native.Nat.{ℕ}
 use mathlib.Core.Bool.{Bool, true, false, not, cond}
 use mathlib.Core.List.{List, [], _∷_}
 use Rattle.laws.specs.Keyed.{before}
 use Rattle.laws.specs.Rows.{insertBy}
 use Rattle.metadata.specs.Texts.{noName}
-use Rattle.metadata.specs.Marks.{initialMarks}
+use Rattle.metadata.specs.Marks.{initialMarks, highest}
 use Rattle.metadata.specs.Answers.{refuse}
 use Rattle.metadata.specs.Tables.{tableKey}
 use Rattle.metadata.specs.Commands.{openingAdmitted}
@@ -23,8 +23,7 @@ sortedTables [] = []
 sortedTables (t ∷ l) = insertBy (before tableKey) t (sortedTables l)
 
 abbrev pub highestTable : List TableRow → ℕ → ℕ
-highestTable [] m = m
-highestTable (t ∷ l) m = highestTable l (max m (t .«table_id» .0))
+highestTable = highest (λ t. t .«table_id» .0)
 
 -- "The table mark starts at the larger of 1 and the highest table id, the tablet mark at 1, the replica mark at 0"
 unfoldable pub startingMarks : List TableRow → ℕ → MetadataAllocatorState
