@@ -219,6 +219,10 @@ module _ {A : Type 0} (T : Keyed A) where
   absent-all k [] h = tt
   absent-all k (x ∷ l) h = let g = absent-go k x l (T .eq (T .key x) k) refl h in (g .0, absent-all k l (g .1))
 
+  pub all-absent : (k : T .Key) (l : List A) → All (λ (x : A). T .eq (T .key x) k ≡ false) l → has T k l ≡ false
+  all-absent k [] a = refl
+  all-absent k (x ∷ l) a = rw (a .0) (all-absent k l (a .1))
+
   -- where no two rows have the same key, each is the one that is found under it
   pub apart-found : (d : A) (l : List A) → Apart (λ (x y : A). T .eq (T .key x) (T .key y) ≡ false) l → All (λ (x : A). row T d (T .key x) l ≡ x) l
   apart-found d [] a = tt
@@ -242,6 +246,25 @@ module _ {A : Type 0} (T : Keyed A) where
   pub put-insert : (r : A) (l : List A) → has T (T .key r) l ≡ false → put T r l ≡ insertBy (before T) r l
   put-insert r [] h = refl
   put-insert r (x ∷ l) h = insert-go r x l (T .lt (T .key r) (T .key x)) (T .eq (T .key x) (T .key r)) refl h (put-insert r l)
+
+  insert-all-go : (P : A → Type 0) (r x : A) (l : List A) (t : Bool) → P r → P x → All P l → All P (insertBy (before T) r l) →
+      All P (cond t (r ∷ x ∷ l) (x ∷ insertBy (before T) r l))
+  insert-all-go P r x l true p q a b = (p, (q, a))
+  insert-all-go P r x l false p q a b = (q, b)
+
+  -- what holds of each row and of the one that is inserted
+  pub insert-all : (P : A → Type 0) (r : A) (l : List A) → P r → All P l → All P (insertBy (before T) r l)
+  insert-all P r [] p a = (p, tt)
+  insert-all P r (x ∷ l) p a = insert-all-go P r x l (before T r x) p (a .0) (a .1) (insert-all P r l p (a .1))
+
+  insert-length-go : (r x : A) (l : List A) (t : Bool) → length (insertBy (before T) r l) ≡ suc (length l) →
+      length (cond t (r ∷ x ∷ l) (x ∷ insertBy (before T) r l)) ≡ suc (suc (length l))
+  insert-length-go r x l true e = refl
+  insert-length-go r x l false e = ap suc e
+
+  pub insert-length : (r : A) (l : List A) → length (insertBy (before T) r l) ≡ suc (length l)
+  insert-length r [] = refl
+  insert-length r (x ∷ l) = insert-length-go r x l (before T r x) (insert-length r l)
 
   -- rows that are all above a key: none has it, and a row with it goes first
   without-above : (k m : T .Key) (l : List A) → T .lt k m ≡ true → Above T m l → without (λ (x : A). T .eq (T .key x) k) l ≡ l

@@ -11,3 +11,5 @@ pub mod Disjoint
 pub mod ZeroRows
 pub mod Packed
 pub mod Retold
+pub mod Opened
+pub mod Theorem
