@@ -13,7 +13,20 @@ use Rattle.laws.proofs.Tests.{each-of, all-of}
 use Rattle.metadata.specs.Texts.{fits, byteWithin, textAdmitted, labelAdmitted, keyAdmitted, nameFits, endpointAdmitted, optionalFits, optionalNameFits, optionalAdmitted}
 use Rattle.metadata.specs.Tables.{endpoints}
 use Rattle.metadata.specs.Commands.{
-  Command, naming, registering, tablet, placement, fault, lowest, nodeTextsAdmitted, replicasAdmitted, leadersAdmitted, namingFaults, nodeFaults, tabletFaults, placementFaults,
+  Command,
+  naming,
+  registering,
+  tablet,
+  placement,
+  fault,
+  lowest,
+  nodeTextsAdmitted,
+  replicasAdmitted,
+  leadersAdmitted,
+  namingFaults,
+  nodeFaults,
+  tabletFaults,
+  placementFaults,
 }
 use Rattle.metadata.specs.Sound.{soundNode, soundTablet, soundPolicy, soundPlacement}
 use Rattle.metadata.specs.declared.Name.{Name}

@@ -15,19 +15,60 @@ use Rattle.metadata.specs.Rooms.{nodeRoom, tabletRoom, retirementRoom}
 use Rattle.metadata.specs.Marks.{markLimit}
 use Rattle.metadata.specs.Answers.{isApplied, _⊳_, refuse, each}
 use Rattle.metadata.specs.Tables.{
-  nodeKey, tabletKey, groupKey, placementKey, nodeOf, tabletOf, tabletOfGroup, placementOf, blankPlacement, desired, sameTablet, sameRetirement,
+  nodeKey,
+  tabletKey,
+  groupKey,
+  placementKey,
+  nodeOf,
+  tabletOf,
+  tabletOfGroup,
+  placementOf,
+  blankPlacement,
+  desired,
+  sameTablet,
+  sameRetirement,
 }
 use Rattle.metadata.specs.Commands.{Command, Fault, fault, lowest, faults}
 use Rattle.metadata.specs.Labels.{judgePicking}
 use Rattle.metadata.specs.Nodes.{
-  moves, lifecycleCanAdvance, expectedAt, stillExpected, judgeLifecycle, clash, clashAnswer, judgeNewNode, judgeKnownNode, judgeRegistering,
+  moves,
+  lifecycleCanAdvance,
+  expectedAt,
+  stillExpected,
+  judgeLifecycle,
+  clash,
+  clashAnswer,
+  judgeNewNode,
+  judgeKnownNode,
+  judgeRegistering,
 }
 use Rattle.metadata.specs.Tablets.{
-  isHash, isRange, inTable, partitionsOverlap, overlapAt, judgeRange, judgeHash, judgeNewTablet, judgeTablet, isReplicaRetired, retirementOf, desires, judgeKnownRetirement, judgeNewRetirement,
+  isHash,
+  isRange,
+  inTable,
+  partitionsOverlap,
+  overlapAt,
+  judgeRange,
+  judgeHash,
+  judgeNewTablet,
+  judgeTablet,
+  isReplicaRetired,
+  retirementOf,
+  desires,
+  judgeKnownRetirement,
+  judgeNewRetirement,
   judgeRetirement,
 }
 use Rattle.metadata.specs.Placements.{
-  standsAlready, eligible, judgeReplica, judgeLeader, judgeDomains, judgeEpoch, judgeKeptReplicas, judgeNewPlacement, judgePlacement,
+  standsAlready,
+  eligible,
+  judgeReplica,
+  judgeLeader,
+  judgeDomains,
+  judgeEpoch,
+  judgeKeptReplicas,
+  judgeNewPlacement,
+  judgePlacement,
 }
 use Rattle.metadata.specs.Model.{StoreRows, judge, admission, decide}
 use Rattle.metadata.specs.declared.Answer.{Answer}

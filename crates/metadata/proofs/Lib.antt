@@ -13,3 +13,5 @@ pub mod Packed
 pub mod Retold
 pub mod Opened
 pub mod Theorem
+pub mod Trials
+pub mod Samples

@@ -16,8 +16,22 @@ use Rattle.laws.proofs.Tests.{each-of, all-of}
 use Rattle.laws.proofs.KeyedLaws.{rising-true, rising-pass}
 use Rattle.metadata.specs.Rooms.{nodeRoom, tableRoom, tabletRoom, retirementRoom}
 use Rattle.metadata.specs.Tables.{
-  nodeKey, tableKey, tabletKey, placementKey, retirementKey, desired, isZeroNode, isZeroTable, isZeroTablet, isZeroPlacement, isZeroRetirement, zeroNode, zeroTable,
-  zeroTablet, zeroPlacement, zeroRetirement,
+  nodeKey,
+  tableKey,
+  tabletKey,
+  placementKey,
+  retirementKey,
+  desired,
+  isZeroNode,
+  isZeroTable,
+  isZeroTablet,
+  isZeroPlacement,
+  isZeroRetirement,
+  zeroNode,
+  zeroTable,
+  zeroTablet,
+  zeroPlacement,
+  zeroRetirement,
 }
 use Rattle.metadata.specs.Model.{StoreRows, DirectoryRows, CatalogRows, padded, view, viewDirectory, viewCatalog, pack, packDirectory, packCatalog}
 use Rattle.metadata.specs.Sound.{soundNode, soundTablet, soundPlacement, soundTable, replicasBelow, soundMarks, soundDirectory, soundCatalog, sound}
@@ -35,7 +49,17 @@ use Rattle.metadata.specs.declared.Directory.{Directory}
 use Rattle.metadata.specs.declared.Catalog.{Catalog}
 use Rattle.metadata.specs.declared.Store.{Store}
 use Rattle.metadata.proofs.ZeroRows.{
-  every-zero, zero-node, zero-table, zero-tablet, zero-placement, zero-retirement, node-passes, table-passes, tablet-passes, placement-passes, retirement-passes,
+  every-zero,
+  zero-node,
+  zero-table,
+  zero-tablet,
+  zero-placement,
+  zero-retirement,
+  node-passes,
+  table-passes,
+  tablet-passes,
+  placement-passes,
+  retirement-passes,
 }
 use Rattle.metadata.proofs.Soundness.{DirectorySound, CatalogSound, RowsSound}
 
@@ -88,8 +112,7 @@ marks-true : (c : CatalogRows) → soundMarks c ≡ true →
     × All (λ (p : DesiredReplicaPlacement). All (λ (r : DesiredReplica). r .«replica_id» .0 ≤ c .marks .«max_replica_id») (desired p)) (c .placements)))
 unfolding soundMarks
 marks-true c e =
-    let g = each-of _ e in
-    (
+    let g = each-of _ e in (
       all-map (c .tables) (λ t h. leb-true _ _ h) (every-all _ (c .tables) (g .0)),
       (
         all-map (c .tablets) (λ t h. leb-true _ _ h) (every-all _ (c .tablets) (g .1 .0)),

@@ -49,9 +49,9 @@ recorded s =
 max-assoc : (a b c : ℕ) → max (max a b) c ≡ max a (max b c)
 max-assoc a b c =
     let u : max (max a b) c ≤ max a (max b c) =
-        max-le (max-le (le-max-left a (max b c)) (omega (arith, le-max-left b c, le-max-right a (max b c)))) (omega (arith, le-max-right b c, le-max-right a (max b c))) in
+    max-le (max-le (le-max-left a (max b c)) (omega (arith, le-max-left b c, le-max-right a (max b c)))) (omega (arith, le-max-right b c, le-max-right a (max b c))) in
     let v : max a (max b c) ≤ max (max a b) c =
-        max-le (omega (arith, le-max-left a b, le-max-left (max a b) c)) (max-le (omega (arith, le-max-right a b, le-max-left (max a b) c)) (le-max-right (max a b) c)) in
+    max-le (omega (arith, le-max-left a b, le-max-left (max a b) c)) (max-le (omega (arith, le-max-right a b, le-max-left (max a b) c)) (le-max-right (max a b) c)) in
     omega arith
 
 -- raised one by one, or to the largest at once

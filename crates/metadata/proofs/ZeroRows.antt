@@ -14,8 +14,21 @@ use Rattle.laws.specs.Tests.{allOf}
 use Rattle.metadata.specs.Rooms.{nameWidth, labelWidth, keyWidth, replicaRoom}
 use Rattle.metadata.specs.Texts.{allZero, isZeroText, isNoLabel, zeroName, zeroLabel, zeroKey, noLabel}
 use Rattle.metadata.specs.Tables.{
-  isZeroName, isZeroReplica, isZeroId, isZeroNode, isZeroTable, isZeroTablet, isZeroPolicy, isZeroPlacement, isZeroRetirement, zeroReplica, zeroNode, zeroTable, zeroTablet,
-  zeroPlacement, zeroRetirement,
+  isZeroName,
+  isZeroReplica,
+  isZeroId,
+  isZeroNode,
+  isZeroTable,
+  isZeroTablet,
+  isZeroPolicy,
+  isZeroPlacement,
+  isZeroRetirement,
+  zeroReplica,
+  zeroNode,
+  zeroTable,
+  zeroTablet,
+  zeroPlacement,
+  zeroRetirement,
 }
 use Rattle.metadata.specs.declared.NodeId.{NodeId}
 use Rattle.metadata.specs.declared.Name.{Name}

@@ -54,7 +54,6 @@ isApplied a = eqb (reported a .number) 0
 -- ---- "Order is from top to bottom"
 
 infixr 30 _⊳_
-
 -- the first answer, unless it is Applied: then the second
 unfoldable pub _⊳_ : Answer → Answer → Answer
 _⊳_ a b = cond (isApplied a) b a

@@ -10,7 +10,15 @@ use Rattle.laws.specs.Tests.{allOf}
 use Rattle.metadata.specs.Rooms.{tableRoom, replicaRoom, keyWidth}
 use Rattle.metadata.specs.Ranges.{admittedb}
 use Rattle.metadata.specs.Texts.{
-  sameName, endpointAdmitted, nameAdmitted, labelAdmitted, keyAdmitted, optionalAdmitted, blank, keyText, isZeroText,
+  sameName,
+  endpointAdmitted,
+  nameAdmitted,
+  labelAdmitted,
+  keyAdmitted,
+  optionalAdmitted,
+  blank,
+  keyText,
+  isZeroText,
 }
 use Rattle.metadata.specs.Tables.{endpoints, desired, leaders, isZeroReplica, isZeroId}
 use Rattle.metadata.specs.declared.Name.{Name}

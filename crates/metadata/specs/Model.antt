@@ -9,7 +9,16 @@ use Rattle.metadata.specs.Rooms.{nodeRoom, tableRoom, tabletRoom, retire
 use Rattle.metadata.specs.Marks.{highest}
 use Rattle.metadata.specs.Answers.{isApplied, _⊳_, refuse}
 use Rattle.metadata.specs.Tables.{
-  nodeKey, tabletKey, placementKey, retirementKey, desired, zeroNode, zeroTable, zeroTablet, zeroPlacement, zeroRetirement,
+  nodeKey,
+  tabletKey,
+  placementKey,
+  retirementKey,
+  desired,
+  zeroNode,
+  zeroTable,
+  zeroTablet,
+  zeroPlacement,
+  zeroRetirement,
 }
 use Rattle.metadata.specs.Commands.{Command, naming, registering, lifecycle, tablet, placement, retirement, picking, faults, lowest, needsName}
 use Rattle.metadata.specs.Labels.{judgePicking}

@@ -13,7 +13,19 @@ use Rattle.laws.specs.Tests.{allOf}
 use Rattle.metadata.specs.Rooms.{nodeRoom, tableRoom, tabletRoom, retirementRoom, replicaRoom}
 use Rattle.metadata.specs.Texts.{nameFits, labelFits, keyFits, optionalFits, optionalNameFits}
 use Rattle.metadata.specs.Tables.{
-  nodeKey, tableKey, tabletKey, placementKey, retirementKey, endpoints, desired, isZeroReplica, isZeroId, isZeroNode, isZeroTable, isZeroTablet, isZeroPlacement,
+  nodeKey,
+  tableKey,
+  tabletKey,
+  placementKey,
+  retirementKey,
+  endpoints,
+  desired,
+  isZeroReplica,
+  isZeroId,
+  isZeroNode,
+  isZeroTable,
+  isZeroTablet,
+  isZeroPlacement,
   isZeroRetirement,
 }
 use Rattle.metadata.specs.Commands.{Command, sameHost}

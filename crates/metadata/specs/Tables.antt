@@ -10,7 +10,21 @@ use Rattle.laws.specs.Lists.{every}
 use Rattle.laws.specs.Tests.{allOf}
 use Rattle.metadata.specs.Rooms.{replicaRoom, nameWidth, labelWidth, keyWidth}
 use Rattle.metadata.specs.Texts.{
-  sameName, sameLabel, sameKey, sameOptional, allZero, isZeroText, isNoLabel, zeroName, zeroLabel, zeroKey, noLabel, blankName, blankLabel, blankKey, blankOptional,
+  sameName,
+  sameLabel,
+  sameKey,
+  sameOptional,
+  allZero,
+  isZeroText,
+  isNoLabel,
+  zeroName,
+  zeroLabel,
+  zeroKey,
+  noLabel,
+  blankName,
+  blankLabel,
+  blankKey,
+  blankOptional,
 }
 use Rattle.metadata.specs.declared.Name.{Name}
 use Rattle.metadata.specs.declared.NodeId.{NodeId}

@@ -11,7 +11,19 @@ use Rattle.metadata.specs.Texts.{keyText}
 use Rattle.metadata.specs.Ranges.{overlapb}
 use Rattle.metadata.specs.Answers.{_⊳_, refuse, each}
 use Rattle.metadata.specs.Tables.{
-  tableKey, tabletKey, groupKey, placementKey, retirementKey, tableOf, tabletOf, tabletOfGroup, placementOf, desired, sameTablet, sameRetirement, zeroRetirement,
+  tableKey,
+  tabletKey,
+  groupKey,
+  placementKey,
+  retirementKey,
+  tableOf,
+  tabletOf,
+  tabletOfGroup,
+  placementOf,
+  desired,
+  sameTablet,
+  sameRetirement,
+  zeroRetirement,
 }
 use Rattle.metadata.specs.declared.Answer.{Answer}
 use Rattle.metadata.specs.declared.Answer.the-variants as A

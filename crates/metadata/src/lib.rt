@@ -4,20 +4,31 @@ ghost use Rattle.metadata.specs.Marks.{initialMarks};
 // The tables of the metadata store: who holds what. Types carry the names of the Rust source where it has one.
 // The rooms: document 01, "Room and admission". specs/Rooms.antt names them once more.
 pub const NODE_ROOM: usize = 32;
+
 pub const TABLE_ROOM: usize = 16;
+
 pub const TABLET_ROOM: usize = 64;
+
 pub const RETIREMENT_ROOM: usize = 256;
+
 pub const REPLICA_ROOM: usize = 7;
+
 pub const NAME_WIDTH: usize = 48;
+
 pub const LABEL_WIDTH: usize = 24;
+
 pub const KEY_WIDTH: usize = 32;
 // select_initial_placement takes at most this many nodes.
 pub const INITIAL_REPLICATION_FACTOR: usize = 3;
 
 pub struct NodeId(pub u64);
+
 pub struct ReplicaId(pub u64);
+
 pub struct TabletId(pub u64);
+
 pub struct RaftGroupId(pub u64);
+
 pub struct TableId(pub u64);
 
 // A text is its first len bytes; the rest of the field is padding.
@@ -128,7 +139,9 @@ pub struct MetadataAllocatorState {
 
 impl MetadataAllocatorState {
     pub const INITIAL_TABLE_HIGH_WATER: u64 = 1;
+
     pub const INITIAL_TABLET_HIGH_WATER: u64 = 1;
+
     pub const INITIAL_REPLICA_HIGH_WATER: u64 = 0;
     // No id lies above it: the mark of an exhausted kind.
     pub const LIMIT: u64 = 0xFFFF_FFFF_FFFF_FFFF;
