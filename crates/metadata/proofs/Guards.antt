@@ -278,22 +278,16 @@ eligibles nodes retirements old group class r e =
       unretired = passed _ (A.RetiredReplicaReuse group (r .«replica_id»)) refl (g3 .1);
     }
 
-epoch-go : (placements : List DesiredReplicaPlacement) (p : DesiredReplicaPlacement) (t : Bool) → has placementKey (p .«tablet_id» .0) placements ≡ t →
-    isApplied (cond t
-    (refuse (eqb (placementOf (p .«tablet_id» .0) placements .«configuration_epoch») markLimit) (A.PlacementEpochExhausted (p .«tablet_id»))
-    ⊳ refuse (not (eqb (p .«configuration_epoch») (placementOf (p .«tablet_id» .0) placements .«configuration_epoch» + 1)))
-    (A.PlacementEpochMismatch (p .«tablet_id») (placementOf (p .«tablet_id» .0) placements .«configuration_epoch» + 1) (p .«configuration_epoch»)))
-    (refuse (not (eqb (p .«configuration_epoch») 1)) (A.InitialPlacementEpoch (p .«tablet_id») (p .«configuration_epoch»)))) ≡ true →
-    p .«configuration_epoch» ≡ placementOf (p .«tablet_id» .0) placements .«configuration_epoch» + 1
-epoch-go placements p true e h = eqb-true _ _ (not-false _ (passed _ (A.PlacementEpochMismatch (p .«tablet_id») _ (p .«configuration_epoch»)) refl (both-pass _ _ h .1)))
-epoch-go placements p false e h =
-    rw (row-absent placementKey blankPlacement (p .«tablet_id» .0) placements e)
-    (eqb-true _ _ (not-false _ (passed _ (A.InitialPlacementEpoch (p .«tablet_id») (p .«configuration_epoch»)) refl h)))
-
 epoch-next : (placements : List DesiredReplicaPlacement) (p : DesiredReplicaPlacement) → isApplied (judgeEpoch placements p) ≡ true →
     p .«configuration_epoch» ≡ placementOf (p .«tablet_id» .0) placements .«configuration_epoch» + 1
 unfolding judgeEpoch
-epoch-next placements p e = epoch-go placements p (has placementKey (p .«tablet_id» .0) placements) refl e
+epoch-next placements p e = go (has placementKey (p .«tablet_id» .0) placements) refl
+  where
+    go : (t : Bool) → has placementKey (p .«tablet_id» .0) placements ≡ t → p .«configuration_epoch» ≡ placementOf (p .«tablet_id» .0) placements .«configuration_epoch» + 1
+    go true q = eqb-true _ _ (not-false _ (passed _ (A.PlacementEpochMismatch (p .«tablet_id») _ (p .«configuration_epoch»)) refl (both-pass _ _ (branch-true _ _ _ e q) .1)))
+    go false q =
+        rw (row-absent placementKey blankPlacement (p .«tablet_id» .0) placements q)
+        (eqb-true _ _ (not-false _ (passed _ (A.InitialPlacementEpoch (p .«tablet_id») (p .«configuration_epoch»)) refl (branch-false _ _ _ e q))))
 
 pub record Places (s : StoreRows) (p : DesiredReplicaPlacement) : Type 0 where
   pub known : has tabletKey (p .«tablet_id» .0) (s .catalog .tablets) ≡ true
