@@ -9,6 +9,7 @@ pub mod Epochs
 pub mod Unretired
 pub mod Disjoint
 pub mod ZeroRows
+pub mod SoundTable
 pub mod Packed
 pub mod Retold
 pub mod Opened

@@ -48,8 +48,10 @@ use Rattle.metadata.specs.declared.Retirements.{Retirements}
 use Rattle.metadata.specs.declared.Directory.{Directory}
 use Rattle.metadata.specs.declared.Catalog.{Catalog}
 use Rattle.metadata.specs.declared.Store.{Store}
+use Rattle.laws.proofs.Packed.{counted, whole}
+use Rattle.metadata.proofs.SoundTable.{sound-packed, made-sound}
 use Rattle.metadata.proofs.ZeroRows.{
-  every-zero,
+
   zero-node,
   zero-table,
   zero-tablet,
@@ -62,46 +64,6 @@ use Rattle.metadata.proofs.ZeroRows.{
   retirement-passes,
 }
 use Rattle.metadata.proofs.Soundness.{DirectorySound, CatalogSound, RowsSound}
-
--- ---- one table, of any row type
-
-module _ {A : Type 0} (key : Keyed A) (isZeroRow : A → Bool) (z : A) (room : ℕ) where
-  pub record Table (count : ℕ) (rows : List A) : Type 0 where
-    pub wide : length rows ≡ room
-    pub within : count ≤ room
-    pub rising : Rising key (take count rows)
-    pub clear : every isZeroRow (drop count rows) ≡ true
-
-  pub table-true : (count : ℕ) (rows : List A) → soundTable key isZeroRow room count rows ≡ true → Table count rows
-  unfolding soundTable
-  table-true count rows e =
-      let g = each-of _ e in
-      record { wide = eqb-true _ _ (g .0); within = leb-true _ _ (g .1 .0); rising = rising-true key (take count rows) (g .1 .1 .0); clear = g .1 .1 .1 .0 }
-
-  pub counted : (count : ℕ) (rows : List A) → Table count rows → length (take count rows) ≡ count
-  counted count rows t = length-take-le count rows (omega (arith, t .wide, t .within))
-
-  -- the rows are those in use and the zero rows
-  pub padded-rows : (count : ℕ) (rows : List A) → ((x : A) → isZeroRow x ≡ true → x ≡ z) → Table count rows → rows ≡ padded z room (take count rows)
-  padded-rows count rows f t =
-      let e : length (drop count rows) ≡ room - length (take count rows) = omega (arith, length-drop count rows, t .wide, counted count rows t) in
-      sym (take-append-drop count rows)
-      ∙ ap (λ (l : List A). take count rows ++ l) (every-zero isZeroRow z f (drop count rows) (t .clear) ∙ ap (λ (n : ℕ). replicate n z) e)
-
-  zero-pass : isZeroRow z ≡ true → (n : ℕ) → every isZeroRow (replicate n z) ≡ true
-  zero-pass e zero = refl
-  zero-pass e (suc n) = and-i (isZeroRow z) _ e (zero-pass e n)
-
-  pub table-pass : (l : List A) → isZeroRow z ≡ true → length l ≤ room → Rising key l → soundTable key isZeroRow room (length l) (padded z room l) ≡ true
-  unfolding soundTable
-  table-pass l e h r =
-      all-of _ (
-        eq-eqb _ _ (length-append l (replicate (room - length l) z) ∙ omega (arith, length-replicate (room - length l) z)),
-        (
-          le-leb _ _ h,
-          (rw take-append-seam (rising-pass key l r), (rw drop-append-seam (zero-pass e (room - length l)), tt)),
-        ),
-      )
 
 -- ---- a sound store's rows
 
@@ -127,11 +89,11 @@ directory-true : (d : Directory) → soundDirectory d ≡ true → DirectorySoun
 unfolding soundDirectory
 directory-true d e =
     let g = each-of _ e in
-    let n = table-true nodeKey isZeroNode zeroNode nodeRoom (d .nodes .count) (d .nodes .rows) (g .1 .0) in
+    let n = sound-packed nodeKey isZeroNode zeroNode nodeRoom (d .nodes .count) (d .nodes .rows) zero-node (g .1 .0) in
     record {
       name = g .0;
-      nodes = n .rising;
-      node-room = omega (arith, counted nodeKey isZeroNode zeroNode nodeRoom _ _ n, n .within);
+      nodes = n .rises;
+      node-room = omega (arith, counted nodeKey zeroNode nodeRoom _ _ n, n .within);
       node-rows = every-all soundNode (viewDirectory d .nodes) (g .1 .1 .0);
     }
 
@@ -139,22 +101,22 @@ catalog-true : (c : Catalog) → soundCatalog c ≡ true → CatalogSound (viewC
 unfolding soundCatalog
 catalog-true c e =
     let g = each-of _ e in
-    let a = table-true tableKey isZeroTable zeroTable tableRoom (c .tables .count) (c .tables .rows) (g .0) in
-    let t = table-true tabletKey isZeroTablet zeroTablet tabletRoom (c .tablets .count) (c .tablets .rows) (g .1 .0) in
-    let p = table-true placementKey isZeroPlacement zeroPlacement tabletRoom (c .placements .count) (c .placements .rows) (g .1 .1 .1 .0) in
-    let x = table-true retirementKey isZeroRetirement zeroRetirement retirementRoom (c .retirements .count) (c .retirements .rows) (g .1 .1 .1 .1 .1 .0) in
+    let a = sound-packed tableKey isZeroTable zeroTable tableRoom (c .tables .count) (c .tables .rows) zero-table (g .0) in
+    let t = sound-packed tabletKey isZeroTablet zeroTablet tabletRoom (c .tablets .count) (c .tablets .rows) zero-tablet (g .1 .0) in
+    let p = sound-packed placementKey isZeroPlacement zeroPlacement tabletRoom (c .placements .count) (c .placements .rows) zero-placement (g .1 .1 .1 .0) in
+    let x = sound-packed retirementKey isZeroRetirement zeroRetirement retirementRoom (c .retirements .count) (c .retirements .rows) zero-retirement (g .1 .1 .1 .1 .1 .0) in
     let m = marks-true (viewCatalog c) (g .1 .1 .1 .1 .1 .1 .0) in
     record {
-      tables = a .rising;
-      table-room = omega (arith, counted tableKey isZeroTable zeroTable tableRoom _ _ a, a .within);
-      tablets = t .rising;
-      tablet-room = omega (arith, counted tabletKey isZeroTablet zeroTablet tabletRoom _ _ t, t .within);
+      tables = a .rises;
+      table-room = omega (arith, counted tableKey zeroTable tableRoom _ _ a, a .within);
+      tablets = t .rises;
+      tablet-room = omega (arith, counted tabletKey zeroTablet tabletRoom _ _ t, t .within);
       tablet-rows = every-all soundTablet (viewCatalog c .tablets) (g .1 .1 .0);
-      placements = p .rising;
-      placement-room = omega (arith, counted placementKey isZeroPlacement zeroPlacement tabletRoom _ _ p, p .within);
+      placements = p .rises;
+      placement-room = omega (arith, counted placementKey zeroPlacement tabletRoom _ _ p, p .within);
       placement-rows = every-all soundPlacement (viewCatalog c .placements) (g .1 .1 .1 .1 .0);
-      retirements = x .rising;
-      retirement-room = omega (arith, counted retirementKey isZeroRetirement zeroRetirement retirementRoom _ _ x, x .within);
+      retirements = x .rises;
+      retirement-room = omega (arith, counted retirementKey zeroRetirement retirementRoom _ _ x, x .within);
       table-mark = m .0;
       tablet-mark = m .1 .0;
       group-mark = m .1 .1 .0;
@@ -198,7 +160,7 @@ directory-pass d o =
     all-of _ (
       o .name,
       (
-        table-pass nodeKey isZeroNode zeroNode nodeRoom (d .nodes) node-passes (o .node-room) (o .nodes),
+        made-sound nodeKey isZeroNode zeroNode nodeRoom node-passes (d .nodes) (o .node-room) (o .nodes),
         (rows-pass soundNode zeroNode nodeRoom (d .nodes) (o .node-rows), tt),
       ),
     )
@@ -207,17 +169,17 @@ catalog-pass : (c : CatalogRows) → CatalogSound c → soundCatalog (packCatalo
 unfolding soundCatalog
 catalog-pass c o =
     all-of _ (
-      table-pass tableKey isZeroTable zeroTable tableRoom (c .tables) table-passes (o .table-room) (o .tables),
+      made-sound tableKey isZeroTable zeroTable tableRoom table-passes (c .tables) (o .table-room) (o .tables),
       (
-        table-pass tabletKey isZeroTablet zeroTablet tabletRoom (c .tablets) tablet-passes (o .tablet-room) (o .tablets),
+        made-sound tabletKey isZeroTablet zeroTablet tabletRoom tablet-passes (c .tablets) (o .tablet-room) (o .tablets),
         (
           rows-pass soundTablet zeroTablet tabletRoom (c .tablets) (o .tablet-rows),
           (
-            table-pass placementKey isZeroPlacement zeroPlacement tabletRoom (c .placements) placement-passes (o .placement-room) (o .placements),
+            made-sound placementKey isZeroPlacement zeroPlacement tabletRoom placement-passes (c .placements) (o .placement-room) (o .placements),
             (
               rows-pass soundPlacement zeroPlacement tabletRoom (c .placements) (o .placement-rows),
               (
-                table-pass retirementKey isZeroRetirement zeroRetirement retirementRoom (c .retirements) retirement-passes (o .retirement-room) (o .retirements),
+                made-sound retirementKey isZeroRetirement zeroRetirement retirementRoom retirement-passes (c .retirements) (o .retirement-room) (o .retirements),
                 (subst (λ (x : CatalogRows). soundMarks x ≡ true) (sym (view-catalog c)) (marks-pass c o), tt),
               ),
             ),
@@ -235,27 +197,27 @@ pack-sound m o = all-of _ (directory-pass (m .directory) (o .directory), (catalo
 same-directory : (d : Directory) → soundDirectory d ≡ true → packDirectory (viewDirectory d) ≡ d
 unfolding soundDirectory
 same-directory d e =
-    let t = table-true nodeKey isZeroNode zeroNode nodeRoom (d .nodes .count) (d .nodes .rows) (each-of _ e .1 .0) in
-    let p = counted nodeKey isZeroNode zeroNode nodeRoom _ _ t in
-    let q = sym (padded-rows nodeKey isZeroNode zeroNode nodeRoom _ _ zero-node t) in
+    let t = sound-packed nodeKey isZeroNode zeroNode nodeRoom (d .nodes .count) (d .nodes .rows) zero-node (each-of _ e .1 .0) in
+    let p = sym (counted nodeKey zeroNode nodeRoom _ _ t) in
+    let q = sym (whole nodeKey zeroNode nodeRoom _ _ t) in
     λ i. record { «cluster_id» = d .«cluster_id»; nodes = record { count = p i; rows = q i } }
 
 same-catalog : (c : Catalog) → soundCatalog c ≡ true → packCatalog (viewCatalog c) ≡ c
 unfolding soundCatalog
 same-catalog c e =
     let g = each-of _ e in
-    let a = table-true tableKey isZeroTable zeroTable tableRoom (c .tables .count) (c .tables .rows) (g .0) in
-    let t = table-true tabletKey isZeroTablet zeroTablet tabletRoom (c .tablets .count) (c .tablets .rows) (g .1 .0) in
-    let p = table-true placementKey isZeroPlacement zeroPlacement tabletRoom (c .placements .count) (c .placements .rows) (g .1 .1 .1 .0) in
-    let x = table-true retirementKey isZeroRetirement zeroRetirement retirementRoom (c .retirements .count) (c .retirements .rows) (g .1 .1 .1 .1 .1 .0) in
-    let a1 = counted tableKey isZeroTable zeroTable tableRoom _ _ a in
-    let a2 = sym (padded-rows tableKey isZeroTable zeroTable tableRoom _ _ zero-table a) in
-    let t1 = counted tabletKey isZeroTablet zeroTablet tabletRoom _ _ t in
-    let t2 = sym (padded-rows tabletKey isZeroTablet zeroTablet tabletRoom _ _ zero-tablet t) in
-    let p1 = counted placementKey isZeroPlacement zeroPlacement tabletRoom _ _ p in
-    let p2 = sym (padded-rows placementKey isZeroPlacement zeroPlacement tabletRoom _ _ zero-placement p) in
-    let x1 = counted retirementKey isZeroRetirement zeroRetirement retirementRoom _ _ x in
-    let x2 = sym (padded-rows retirementKey isZeroRetirement zeroRetirement retirementRoom _ _ zero-retirement x) in
+    let a = sound-packed tableKey isZeroTable zeroTable tableRoom (c .tables .count) (c .tables .rows) zero-table (g .0) in
+    let t = sound-packed tabletKey isZeroTablet zeroTablet tabletRoom (c .tablets .count) (c .tablets .rows) zero-tablet (g .1 .0) in
+    let p = sound-packed placementKey isZeroPlacement zeroPlacement tabletRoom (c .placements .count) (c .placements .rows) zero-placement (g .1 .1 .1 .0) in
+    let x = sound-packed retirementKey isZeroRetirement zeroRetirement retirementRoom (c .retirements .count) (c .retirements .rows) zero-retirement (g .1 .1 .1 .1 .1 .0) in
+    let a1 = sym (counted tableKey zeroTable tableRoom _ _ a) in
+    let a2 = sym (whole tableKey zeroTable tableRoom _ _ a) in
+    let t1 = sym (counted tabletKey zeroTablet tabletRoom _ _ t) in
+    let t2 = sym (whole tabletKey zeroTablet tabletRoom _ _ t) in
+    let p1 = sym (counted placementKey zeroPlacement tabletRoom _ _ p) in
+    let p2 = sym (whole placementKey zeroPlacement tabletRoom _ _ p) in
+    let x1 = sym (counted retirementKey zeroRetirement retirementRoom _ _ x) in
+    let x2 = sym (whole retirementKey zeroRetirement retirementRoom _ _ x) in
     λ i.
     record {
       tables = record { count = a1 i; rows = a2 i };

@@ -8,6 +8,7 @@ use lib.ListN.{length, replicate}
 use borrow.Author.Tests.{eqb-true, not-true}
 use Rattle.laws.specs.Bytes.{isZero}
 use Rattle.laws.specs.Lists.{every}
+use Rattle.laws.proofs.Every.{all-z}
 use Rattle.laws.proofs.ListLaws.{and-both}
 use Rattle.laws.proofs.Tests.{each-of}
 use Rattle.laws.specs.Tests.{allOf}
@@ -45,17 +46,11 @@ use Rattle.metadata.specs.declared.TableRow.{TableRow}
 
 -- ---- any list of zeros
 
-pub every-zero : {A : Type 0} (test : A → Bool) (z : A) → ((x : A) → test x ≡ true → x ≡ z) → (l : List A) → every test l ≡ true → l ≡ replicate (length l) z
-every-zero test z f [] e = refl
-every-zero test z f (x ∷ l) e =
-    let g = and-both (test x) (every test l) e in
-    ap₂ (λ (y : _) (m : List _). y ∷ m) (f x (g .0)) (every-zero test z f l (g .1))
-
 zeros : {A : Type 0} (test : A → Bool) (z : A) (room : ℕ) (l : List A) → ((x : A) → test x ≡ true → x ≡ z) → allZero test room l ≡ true → l ≡ replicate room z
 unfolding allZero
 zeros test z room l f e =
     let g = and-both (eqb (length l) room) (every test l) e in
-    every-zero test z f l (g .1) ∙ ap (λ (n : ℕ). replicate n z) (eqb-true (length l) room (g .0))
+    all-z test z f l (g .1) ∙ ap (λ (n : ℕ). replicate n z) (eqb-true (length l) room (g .0))
 
 zero-number : (n : ℕ) → isZero n ≡ true → n ≡ 0
 zero-number n e = eqb-true n 0 e

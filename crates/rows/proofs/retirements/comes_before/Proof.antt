@@ -1,0 +1,11 @@
+-- `rows::retirements::comes_before` meets its contract. Assumes nothing.
+use borrow.Author.Needs.{needs}
+use Rattle.laws.proofs.Pairs.{first-then}
+use Rattle.rows.proofs.retirements.comes_before.Statement.{statement}
+use Rattle.rows.proofs.retirements.comes_before.Tie as tie
+
+returns : tie.Need-returns
+returns c = search (first-then, needs)
+
+pub comes-before-spec : {M : Type 1} → statement M
+comes-before-spec = tie.close (tie.spec returns)
