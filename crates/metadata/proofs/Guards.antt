@@ -70,7 +70,7 @@ use Rattle.metadata.specs.Placements.{
   judgeNewPlacement,
   judgePlacement,
 }
-use Rattle.metadata.specs.Model.{StoreRows, judge, admission, decide}
+use Rattle.metadata.specs.Model.{StoreRows, judge, admission, decided, decide}
 use Rattle.metadata.specs.declared.Answer.{Answer}
 use Rattle.metadata.specs.declared.Answer.the-variants as A
 use Rattle.metadata.specs.declared.Clash.{Clash}
@@ -88,7 +88,7 @@ use Rattle.metadata.proofs.AnswerLaws.{both-pass, passed, each-passed, 
 -- ---- every command: no reason applies, and its own checks pass
 
 pub passes : (s : StoreRows) (c : Command) → isApplied (decide s c) ≡ true → (lowest (faults c) ≡ 0) × (isApplied (judge s c) ≡ true)
-unfolding decide admission
+unfolding decided admission
 passes s c e =
     let g = both-pass _ _ e in
     (eqb-true (lowest (faults c)) 0 (not-false _ (passed _ (A.InvalidCommand (lowest (faults c))) refl (g .0))), both-pass _ _ (g .1) .1)

@@ -16,3 +16,4 @@ pub mod Opened
 pub mod Theorem
 pub mod Trials
 pub mod Samples
+pub mod Judging

@@ -51,7 +51,6 @@ use Rattle.metadata.specs.declared.Store.{Store}
 use Rattle.laws.proofs.Packed.{counted, whole}
 use Rattle.metadata.proofs.SoundTable.{sound-packed, made-sound}
 use Rattle.metadata.proofs.ZeroRows.{
-
   zero-node,
   zero-table,
   zero-tablet,

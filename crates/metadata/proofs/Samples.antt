@@ -77,7 +77,7 @@ use Rattle.metadata.specs.Placements.{
   judgeNewPlacement,
   judgePlacement,
 }
-use Rattle.metadata.specs.Model.{StoreRows, admission, decide}
+use Rattle.metadata.specs.Model.{StoreRows, admission, decided, decide}
 use Rattle.metadata.specs.Opening.{sortedTables, startingMarks}
 use Rattle.metadata.specs.declared.Reported.{Reported}
 use Rattle.metadata.specs.declared.Key.{Key}
@@ -186,5 +186,5 @@ right =
     && sameReport (reported (decide full (registering (taken 40 5)))) (report 14 5 40 2)
 
 samples-right : right ≡ true
-unfolding desires judgeKnownRetirement judgeNewRetirement judgeRetirement sameRetirement any tally noneTwice allOf fits textAdmitted blank sameText sameOptional optionalAdmitted optionalFits isZeroText allZero lexLeb sharesLabel newLabel distinct localityGain better candidate stepBest bestOf chooseFrom judgePicking _⊳_ refuse each sameNodeDirectory sameNode samePartition sameTablet sameReplica sameList samePolicy samePlacement lowest nodeTextsAdmitted partitionAdmitted replicasAdmitted minimaAdmitted leadersAdmitted classBlank judgeNaming lifecycleCanAdvance stillExpected judgeLifecycle clashFields clash judgeNewNode judgeKnownNode judgeRegistering movedNodes registeredNodes judgeHash judgeRange judgeNewTablet judgeTablet isReplicaRetired standsAlready eligible classDiffers judgeReplica judgeLeader judgeDomains judgeEpoch keptReplica judgeKeptReplicas judgeNewPlacement judgePlacement admission decide sortedTables startingMarks
+unfolding desires judgeKnownRetirement judgeNewRetirement judgeRetirement sameRetirement any tally noneTwice allOf fits textAdmitted blank sameText sameOptional optionalAdmitted optionalFits isZeroText allZero lexLeb sharesLabel newLabel distinct localityGain better candidate stepBest bestOf chooseFrom judgePicking _⊳_ refuse each sameNodeDirectory sameNode samePartition sameTablet sameReplica sameList samePolicy samePlacement lowest nodeTextsAdmitted partitionAdmitted replicasAdmitted minimaAdmitted leadersAdmitted classBlank judgeNaming lifecycleCanAdvance stillExpected judgeLifecycle clashFields clash judgeNewNode judgeKnownNode judgeRegistering movedNodes registeredNodes judgeHash judgeRange judgeNewTablet judgeTablet isReplicaRetired standsAlready eligible classDiffers judgeReplica judgeLeader judgeDomains judgeEpoch keptReplica judgeKeptReplicas judgeNewPlacement judgePlacement admission decided sortedTables startingMarks
 samples-right = refl

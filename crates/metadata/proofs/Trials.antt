@@ -95,7 +95,7 @@ use Rattle.metadata.specs.Placements.{
   judgeNewPlacement,
   judgePlacement,
 }
-use Rattle.metadata.specs.Model.{StoreRows, admission, decide, apply}
+use Rattle.metadata.specs.Model.{StoreRows, admission, decided, decide, apply}
 use Rattle.metadata.specs.Opening.{sortedTables, startingMarks, emptyRows}
 use Rattle.metadata.specs.declared.Reported.{Reported}
 use Rattle.metadata.specs.declared.Name.{Name}
@@ -251,5 +251,5 @@ trials =
     ∷ []
 
 pub trials-right : allRight trials ≡ true
-unfolding any tally noneTwice allOf fits textAdmitted blank sameText sameOptional optionalAdmitted optionalFits isZeroText allZero lexLeb sharesLabel newLabel distinct localityGain better candidate stepBest bestOf chooseFrom judgePicking _⊳_ refuse each sameNodeDirectory sameNode samePartition sameTablet sameReplica sameList samePolicy samePlacement lowest nodeTextsAdmitted partitionAdmitted replicasAdmitted minimaAdmitted leadersAdmitted classBlank judgeNaming lifecycleCanAdvance stillExpected judgeLifecycle clashFields clash judgeNewNode judgeKnownNode judgeRegistering movedNodes registeredNodes judgeHash judgeRange judgeNewTablet judgeTablet isReplicaRetired standsAlready eligible classDiffers judgeReplica judgeLeader judgeDomains judgeEpoch keptReplica judgeKeptReplicas judgeNewPlacement judgePlacement admission decide sortedTables startingMarks
+unfolding any tally noneTwice allOf fits textAdmitted blank sameText sameOptional optionalAdmitted optionalFits isZeroText allZero lexLeb sharesLabel newLabel distinct localityGain better candidate stepBest bestOf chooseFrom judgePicking _⊳_ refuse each sameNodeDirectory sameNode samePartition sameTablet sameReplica sameList samePolicy samePlacement lowest nodeTextsAdmitted partitionAdmitted replicasAdmitted minimaAdmitted leadersAdmitted classBlank judgeNaming lifecycleCanAdvance stillExpected judgeLifecycle clashFields clash judgeNewNode judgeKnownNode judgeRegistering movedNodes registeredNodes judgeHash judgeRange judgeNewTablet judgeTablet isReplicaRetired standsAlready eligible classDiffers judgeReplica judgeLeader judgeDomains judgeEpoch keptReplica judgeKeptReplicas judgeNewPlacement judgePlacement admission decided sortedTables startingMarks
 trials-right = refl

@@ -77,9 +77,12 @@ judge s picking = judgePicking (s .directory .nodes)
 unfoldable pub admission : Command → Answer
 admission c = refuse (not (eqb (lowest (faults c)) 0)) (A.InvalidCommand (lowest (faults c)))
 
--- "all commands: 10; 11 NotInitialized, except naming and picking"
-unfoldable pub decide : StoreRows → Command → Answer
-decide s c = admission c ⊳ refuse (needsName c && not (s .directory .name .present)) A.NotInitialized ⊳ judge s c
+-- "all commands: 10; 11 NotInitialized, except naming and picking"; then the command's own checks, which answered so
+unfoldable pub decided : OptionalName → Command → Answer → Answer
+decided name c judged = admission c ⊳ refuse (needsName c && not (name .present)) A.NotInitialized ⊳ judged
+
+abbrev pub decide : StoreRows → Command → Answer
+decide s c = decided (s .directory .name) c (judge s c)
 
 -- ---- what an Applied command does
 
