@@ -6,13 +6,14 @@ use mathlib.Core.Bool.{Bool, true, false, cond}
 use mathlib.Core.List.{List, [], _∷_}
 use lib.Dec.{leb}
 use lib.ListN.{length}
+use borrow.Author.Needs.{needs}
 use borrow.Author.Tests.{le-leb, lt-leb, leb-true, leb-false}
 use Rattle.laws.proofs.ListLaws.{never}
 use Rattle.decode.specs.Decode.{byteAt}
 use Rattle.metadata.specs.declared.Answer.the-variants as A
 use Rattle.tape.specs.declared.Next.{Next}
 use Rattle.tape.specs.declared.Next.the-variants as N
-use Rattle.tape.specs.Tape.{isCommand, sizeOf, commandAt, Reading, ended, stopped, then, nextAt, onNext, read, readFrom}
+use Rattle.tape.specs.Tape.{isCommand, sizeOf, commandAt, Reading, ended, stopped, then, nextAt, onNext, read, readFrom, lines}
 
 -- ---- what stands at a place, as the code tests it
 
@@ -20,17 +21,22 @@ pub next-end : (l : List ℕ) (at : ℕ) → length l ≤ at → N.End ≡ nextA
 unfolding nextAt
 next-end l at h = rw (le-leb (length l) at h)
 
-pub next-unknown : (l : List ℕ) (at b : ℕ) → at < length l → b ≡ byteAt l at → isCommand b ≡ false → N.Unknown b ≡ nextAt l at
+pub next-unknown : (l : List ℕ) (at b : ℕ) (t : Bool) → at < length l → b ≡ byteAt l at → t ≡ isCommand b → t ≡ false → N.Unknown b ≡ nextAt l at
 unfolding nextAt
-next-unknown l at b h q e = rw (lt-leb (length l) at h, ← q, e)
+next-unknown l at b t h q p e = rw (lt-leb (length l) at h, ← q, ← p, e)
 
-pub next-cut : (l : List ℕ) (at b n : ℕ) → at < length l → b ≡ byteAt l at → isCommand b ≡ true → n ≡ sizeOf b → length l < (at + 1) + n → N.Cut b ≡ nextAt l at
+pub next-cut : (l : List ℕ) (at b n : ℕ) (t : Bool) → at < length l → b ≡ byteAt l at → t ≡ isCommand b → t ≡ true → n ≡ sizeOf b → length l - (at + 1) < n → N.Cut b ≡ nextAt l at
 unfolding nextAt
-next-cut l at b n h q e z f = rw (lt-leb (length l) at h, ← q, e, ← z, lt-leb ((at + 1) + n) (length l) f)
+next-cut l at b n t h q p e z f =
+    let g : length l < (at + 1) + n = omega arith in
+    rw (lt-leb (length l) at h, ← q, ← p, e, ← z, lt-leb ((at + 1) + n) (length l) g)
 
-pub next-whole : (l : List ℕ) (at b n : ℕ) → at < length l → b ≡ byteAt l at → isCommand b ≡ true → n ≡ sizeOf b → (at + 1) + n ≤ length l → N.Whole b ((at + 1) + n) ≡ nextAt l at
+pub next-whole : (l : List ℕ) (at b n : ℕ) (t : Bool) → at < length l → b ≡ byteAt l at → t ≡ isCommand b → t ≡ true → n ≡ sizeOf b → n ≤ length l - (at + 1) →
+    N.Whole b ((at + 1) + n) ≡ nextAt l at
 unfolding nextAt
-next-whole l at b n h q e z f = rw (lt-leb (length l) at h, ← q, e, ← z, le-leb ((at + 1) + n) (length l) f)
+next-whole l at b n t h q p e z f =
+    let g : (at + 1) + n ≤ length l = omega arith in
+    rw (lt-leb (length l) at h, ← q, ← p, e, ← z, le-leb ((at + 1) + n) (length l) g)
 
 -- ---- and back: a whole command has its bytes
 
@@ -75,6 +81,12 @@ read-enough (suc n) (suc m) l at h k =
     go (N.Cut b) e f = rw e
     go (N.Whole b i) e f = rw e (ap (then (commandAt b l (at + 1))) (f b i e))
 
+-- ---- counting the lines of what is left
+
+pub record Counting (l : List ℕ) (at₀ at n : ℕ) : Type 0 where
+  pub low : n ≤ at
+  pub left : lines (readFrom l at₀) ≡ n + lines (readFrom l at)
+
 -- ---- the whole of what is left, by what stands at the place
 
 pub read-end : (l : List ℕ) (at : ℕ) → nextAt l at ≡ N.End → readFrom l at ≡ ended
@@ -95,3 +107,33 @@ read-whole l at b m e =
     let w = whole l at b m e in
     read-enough (length l - at) (suc (length l - at)) l at (omega arith) (omega arith)
     ∙ rw e (ap (then (commandAt b l (at + 1))) (read-enough (length l - at) (length l - m) l m (omega (arith, w .next, w .inside)) (omega arith)))
+
+pub count-start : (l : List ℕ) (at : ℕ) → Counting l at at 0
+count-start l at = record { low = omega arith; left = omega arith }
+
+pub count-whole : (l : List ℕ) (at₀ at n b m : ℕ) (x : Next) → Counting l at₀ at n → x ≡ nextAt l at → x ≡ N.Whole b m → Counting l at₀ m (n + 1)
+count-whole l at₀ at n b m x c q e =
+    let w = whole l at b m (sym q ∙ e) in
+    record {
+      low = omega (arith, w .next, c .low);
+      left = c .left ∙ ap (λ (r : Reading). n + lines r) (read-whole l at b m (sym q ∙ e)) ∙ omega arith;
+    }
+
+pub count-unknown : (l : List ℕ) (at₀ at n b : ℕ) (x : Next) → Counting l at₀ at n → x ≡ nextAt l at → x ≡ N.Unknown b → n + 1 ≡ lines (readFrom l at₀)
+count-unknown l at₀ at n b x c q e = sym (c .left ∙ rw (read-unknown l at b (sym q ∙ e)))
+
+pub count-cut : (l : List ℕ) (at₀ at n b : ℕ) (x : Next) → Counting l at₀ at n → x ≡ nextAt l at → x ≡ N.Cut b → n + 1 ≡ lines (readFrom l at₀)
+count-cut l at₀ at n b x c q e = sym (c .left ∙ rw (read-cut l at b (sym q ∙ e)))
+
+pub count-none : (l : List ℕ) (at₀ at n : ℕ) (x : Next) → Counting l at₀ at n → x ≡ nextAt l at → x ≡ N.End → n ≡ lines (readFrom l at₀)
+count-none l at₀ at n x c q e = sym (c .left ∙ rw (read-end l at (sym q ∙ e)) (omega arith))
+
+pub count-end : (l : List ℕ) (at₀ at n : ℕ) → Counting l at₀ at n → length l ≤ at → n ≡ lines (readFrom l at₀)
+count-end l at₀ at n c h = count-none l at₀ at n N.End c (next-end l at h) refl
+
+-- the next place is further on, and inside
+pub whole-less : (l : List ℕ) (at b m : ℕ) (x : Next) → x ≡ nextAt l at → x ≡ N.Whole b m → length l - m < length l - at
+whole-less l at b m x q e = let w = whole l at b m (sym q ∙ e) in omega (arith, w .next, w .inside, w .fits)
+
+-- for `search counting` at each need of the loop
+pub ruleset counting = (count-start, count-whole, count-unknown, count-cut, count-none, count-end, whole-less, needs)

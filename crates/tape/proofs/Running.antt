@@ -5,8 +5,8 @@ use native.Mathlib.Numerals.{add-one}
 use mathlib.Core.Path.{_≡_, refl, sym, ap, ap₂, _∙_, subst}
 use mathlib.Core.Bool.{Bool, true, false, cond}
 use mathlib.Core.List.{List, [], _∷_, _++_, append-assoc, append-nil}
-use lib.ListN.{length, take, drop, length-append, length-take, length-drop, getD}
-use lib.Seq.{take-at, drop-at, drop-drop, drop-cons, take-suc, take-all, length-take-le}
+use lib.ListN.{length, take, drop, length-append, length-take, length-drop, getD, set}
+use lib.Seq.{take-at, drop-at, drop-drop, drop-cons, take-suc, take-all, length-take-le, sets-eq}
 use Rattle.metadata.specs.Answers.{reported}
 use Rattle.metadata.specs.Commands.{Command}
 use Rattle.metadata.specs.Model.{step}
@@ -68,6 +68,29 @@ pub numbers-append : (l m : List Answer) → numbers (l ++ m) ≡ numbers l ++ n
 unfolding numbers
 numbers-append [] m = refl
 numbers-append (a ∷ l) m = ap (λ (x : List ℕ). numbersOf (reported a) ++ x) (numbers-append l m) ∙ sym (append-assoc (numbersOf (reported a)) (numbers l) (numbers m))
+
+operands-three : (a : Answer) (d : ℕ) → reported a .operands ≡ getD (reported a .operands) 0 d ∷ getD (reported a .operands) 1 d ∷ getD (reported a .operands) 2 d ∷ []
+operands-three a d = three (reported a .operands) d (omega (arith, four-numbers a))
+  where
+    three : (l : List ℕ) (d : ℕ) → length l ≡ 3 → l ≡ getD l 0 d ∷ getD l 1 d ∷ getD l 2 d ∷ []
+    three [] d e = absurd (omega arith)
+    three (x ∷ []) d e = absurd (omega arith)
+    three (x ∷ y ∷ []) d e = absurd (omega arith)
+    three (x ∷ y ∷ z ∷ []) d e = refl
+    three (x ∷ y ∷ z ∷ w ∷ l) d e = absurd (omega arith)
+
+-- four stores of an answer's numbers, one behind the other; r is what the code made of the answer
+pub four-stores : (a : Answer) (r : Reported) (l l1 l2 l3 l4 : List ℕ) (at n : ℕ) → at + 4 ≤ length l → r ≡ reported a → n ≡ r .number →
+    l1 ≡ set l at n → l2 ≡ set l1 (at + 1) (getD (r .operands) 0 0) → l3 ≡ set l2 (at + 2) (getD (r .operands) 1 0) → l4 ≡ set l3 (at + 3) (getD (r .operands) 2 0) →
+    l4 ≡ written l at (reported a)
+four-stores a r l l1 l2 l3 l4 at n h q p e1 e2 e3 e4 =
+    let o : ℕ → ℕ = λ i. getD (reported a .operands) i 0 in
+    let vs : List ℕ = reported a .number ∷ o 0 ∷ o 1 ∷ o 2 ∷ [] in
+    let p1 : at + 1 ≡ suc at = omega arith in
+    let p2 : at + 2 ≡ suc (suc at) = omega arith in
+    let p3 : at + 3 ≡ suc (suc (suc at)) = omega arith in
+    rw (e4, e3, e2, e1, p, q, p1, p2, p3) (sets-eq vs l at h)
+    ∙ ap (λ (x : List ℕ). (take at l ++ (reported a .number ∷ x)) ++ drop (at + 4) l) (sym (operands-three a 0))
 
 -- ---- the list that holds the answers so far
 

@@ -75,6 +75,10 @@ read (suc n) l at = onNext (nextAt l at) (λ b m. then (commandAt b l (at + 1)) 
 abbrev pub readFrom : List ℕ → ℕ → Reading
 readFrom l at = read (length l - at) l at
 
+-- a line for each command, and one more where the tape stops
+abbrev pub lines : Reading → ℕ
+lines r = length (r .commands) + length (r .stop)
+
 -- every answer, the last 40 included
 abbrev pub tapeAnswers : Store → Reading → List Answer
 tapeAnswers s r = answers s (r .commands) ++ r .stop
