@@ -8,7 +8,8 @@ use lib.ListN.{length, take, drop, getD, set, length-set, length-take, length-dr
 use lib.Seq.{drop-cons, take-suc, take-suc-set, take-all, getD-drop}
 use borrow.Author.Needs.{needs}
 use Rattle.laws.proofs.Rows.{length-mapped}
-use Rattle.decode.specs.Decode.{little, fieldAt, numberAt}
+use native.Mathlib.Nat.{mul-zero, mul-suc}
+use Rattle.decode.specs.Decode.{little, fieldAt, numberAt, listAt}
 
 -- the first byte of a field, and the rest of it
 field-cons : (n : ℕ) (l : List ℕ) (at : ℕ) → at < length l → fieldAt (suc n) l at ≡ getD l at 0 ∷ fieldAt n l (at + 1)
@@ -79,3 +80,41 @@ module _ {src : List ℕ} {at room : ℕ} where
 
 -- for `search filling` at each need of such a loop
 pub ruleset filling = (length-mapped, start, more, ended, needs)
+
+-- ---- a list of records, one by one
+
+module _ {A : Type 0} (f : List ℕ → ℕ → A) (size : ℕ) where
+  pub list-more : (n : ℕ) (l : List ℕ) (at : ℕ) → listAt f size (suc n) l at ≡ listAt f size n l at ++ f l (at + size * n) ∷ []
+  list-more zero l at = let e : at + size * 0 ≡ at = rw mul-zero (omega arith) in rw e
+  list-more (suc n) l at =
+      let e : (at + size) + size * n ≡ at + size * suc n = rw mul-suc (omega arith) in
+      ap (λ (x : List A). f l at ∷ x) (list-more n l (at + size) ∙ ap (λ (k : ℕ). listAt f size n l (at + size) ++ f l k ∷ []) e)
+
+pub record Listing {A : Type 0} (f : List ℕ → ℕ → A) (size : ℕ) (src : List ℕ) (at room count : ℕ) (out : List A) (place i : ℕ) : Type 0 where
+  pub inside : i ≤ count
+  pub long : length out ≡ room
+  pub there : place ≡ at + size * i
+  pub front : take i out ≡ listAt f size i src at
+
+module _ {A : Type 0} {f : List ℕ → ℕ → A} {size : ℕ} {src : List ℕ} {at room count : ℕ} where
+  pub list-start : {out : List A} → length out ≡ room → Listing f size src at room count out at 0
+  list-start e = record { inside = omega arith; long = e; there = rw mul-zero (omega arith); front = refl }
+
+  pub list-next : {out : List A} {place i : ℕ} {x : A} → Listing f size src at room count out place i → i < count → count ≤ room → x ≡ f src place →
+      Listing f size src at room count (set out i x) (place + size) (i + 1)
+  list-next {out} {place} {i} {x} k h r q =
+      let b : i < length out = omega (arith, k .long) in
+      record {
+        inside = omega arith;
+        long = length-set out i x ∙ k .long;
+        there = let e : size * (i + 1) ≡ size * i + size = rw (add-one, mul-suc) in omega (arith, k .there);
+        front =
+            rw add-one
+            (take-suc-set out i x b ∙ ap₂ (λ (y : List A) (z : A). y ++ z ∷ []) (k .front) (q ∙ ap (f src) (k .there)) ∙ sym (list-more f size i src at));
+      }
+
+  pub list-end : {out : List A} {place i : ℕ} → Listing f size src at room count out place i → count ≤ i → take count out ≡ listAt f size count src at
+  list-end {out} {place} {i} k h = let e : i ≡ count = omega (arith, k .inside) in rw (← e) (k .front)
+
+-- for `search listing` at each need of such a loop
+pub ruleset listing = (length-mapped, list-start, list-next, list-end, needs)

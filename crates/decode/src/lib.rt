@@ -1,8 +1,8 @@
 // Records read from a lent slice, as the tape has them. Each asks that its bytes are there: whoever reads a command looks at its size first.
 ghost use mathlib.Core.Path.{_≡_};
-ghost use Prim.Native.Nat.{_+_, _≤_, _<_, _^_};
-ghost use lib.ListN.{length};
-ghost use Rattle.metadata.specs.Rooms.{nameWidth, labelWidth, keyWidth, replicaRoom};
+ghost use Prim.Native.Nat.{_+_, _*_, _≤_, _<_, _^_};
+ghost use lib.ListN.{length, take};
+ghost use Rattle.metadata.specs.Rooms.{nameWidth, labelWidth, keyWidth, replicaRoom, tableRoom};
 ghost use Rattle.decode.specs.Decode.{numberAt, fieldAt, byteAt, nameAt, labelAt, keyAt, optionalAt, nodeAt, tabletAt, replicaAt, placementAt, retirementAt, tableAt, listAt, nodeIdAt};
 use metadata::DesiredReplica;
 use metadata::DesiredReplicaPlacement;
@@ -21,6 +21,7 @@ use metadata::REPLICA_ROOM;
 use metadata::RaftGroupId;
 use metadata::ReplicaId;
 use metadata::RetiredReplicaLifetime;
+use metadata::TABLE_ROOM;
 use metadata::TableId;
 use metadata::TableRow;
 use metadata::TabletDescriptor;
@@ -295,4 +296,24 @@ pub fn table_at(s: &[u8], at: usize) -> TableRow
         table_id: TableId(number8(s, at)),
         tablet_count: number4(s, at + 8),
     }
+}
+
+// The first count rows are those of the bytes, one behind the other; the rest are rows of zeros.
+pub fn tables_at(s: &[u8], at: usize, count: usize) -> [TableRow; TABLE_ROOM]
+    requires { ⌜ (count ≤ tableRoom) × (at + 12 * count ≤ length (now s)) ⌝ }
+    ensures { λ r. ⌜ take count r ≡ listAt tableAt 12 count (now (s .entry)) at ⌝ }
+{
+    let none = TableRow {
+        table_id: TableId(0),
+        tablet_count: 0,
+    };
+    let mut out = [none; TABLE_ROOM];
+    let mut place = at;
+    let mut i = 0;
+    while i < count {
+        out[i] = table_at(s, place);
+        place += 12;
+        i += 1;
+    }
+    out
 }
