@@ -1,0 +1,5 @@
+-- The laws that belong to no one function. Assumes nothing.
+pub mod Front
+pub mod Lowest
+pub mod Pairs
+pub mod Parts

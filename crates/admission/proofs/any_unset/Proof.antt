@@ -1,0 +1,62 @@
+-- `admission::any_unset` meets its contract. Assumes nothing.
+use Prim.Native.Nat.{_-_}
+use Rattle.metadata.specs.Rooms.{tableRoom}
+use Rattle.metadata.specs.Tables.{zeroTable}
+use Rattle.records.proofs.Twice.{Looking}
+use Rattle.admission.specs.Tests.{unset}
+use Rattle.admission.proofs.Front.{fronting}
+use Rattle.admission.proofs.any_unset.Statement.{statement}
+use Rattle.admission.proofs.any_unset.Tie as tie
+
+abbrev Inv-loop : tie.InvT-loop
+Inv-loop n rows i₀ i = Looking zeroTable unset tableRoom 0 n rows i
+
+abbrev μ-loop : tie.MeasureT-loop
+μ-loop n rows i₀ i = n - i
+
+loop-holds : tie.Need-loop-holds Inv-loop μ-loop
+loop-holds c = search fronting
+
+returns : tie.Need-returns Inv-loop μ-loop
+returns c = search fronting
+
+mul-is-unset : tie.Need-mul-is-unset Inv-loop μ-loop
+mul-is-unset c = search fronting
+
+array-copy-out-is-unset : tie.Need-array-copy-out-is-unset Inv-loop μ-loop
+array-copy-out-is-unset c = search fronting
+
+is-unset-requires : tie.Need-is-unset-requires Inv-loop μ-loop
+is-unset-requires c κs = search fronting
+
+returns-2 : tie.Need-returns-2 Inv-loop μ-loop
+returns-2 c = search fronting
+
+add-i : tie.Need-add-i Inv-loop μ-loop
+add-i c = search fronting
+
+loop-less : tie.Need-loop-less Inv-loop μ-loop
+loop-less c = search fronting
+
+loop-again : tie.Need-loop-again Inv-loop μ-loop
+loop-again c = search fronting
+
+returns-3 : tie.Need-returns-3 Inv-loop μ-loop
+returns-3 c = search fronting
+
+pub any-unset-spec : {M : Type 1} → statement M
+any-unset-spec =
+    tie.close
+    (tie.spec
+    Inv-loop
+    μ-loop
+    loop-holds
+    returns
+    mul-is-unset
+    array-copy-out-is-unset
+    is-unset-requires
+    returns-2
+    add-i
+    loop-less
+    loop-again
+    returns-3)

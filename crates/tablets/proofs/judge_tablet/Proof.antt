@@ -1,0 +1,46 @@
+-- `tablets::judge_tablet` meets its contract. Assumes nothing.
+use borrow.Author.Needs.{needs}
+use Rattle.tablets.proofs.TabletLaws.{tablet-unknown, tablet-again, tablet-conflict}
+use Rattle.tablets.proofs.judge_tablet.Statement.{statement}
+use Rattle.tablets.proofs.judge_tablet.Tie as tie
+
+find-tablet-requires : tie.Need-find-tablet-requires
+find-tablet-requires c κs = search needs
+
+enum-known-i : tie.Need-enum-known-i
+enum-known-i c = search needs
+
+enum-told : tie.Need-enum-told
+enum-told c = search needs
+
+judge-new-tablet-requires : tie.Need-judge-new-tablet-requires
+judge-new-tablet-requires c κs = search needs
+
+returns : tie.Need-returns
+returns c = search (needs, tablet-unknown)
+
+tablet-at-requires : tie.Need-tablet-at-requires
+tablet-at-requires c κs = search needs
+
+same-tablet-requires : tie.Need-same-tablet-requires
+same-tablet-requires c κs = search needs
+
+returns-2 : tie.Need-returns-2
+returns-2 c = search (needs, tablet-again)
+
+returns-3 : tie.Need-returns-3
+returns-3 c = search (needs, tablet-conflict)
+
+pub judge-tablet-spec : {M : Type 1} → statement M
+judge-tablet-spec =
+    tie.close
+    (tie.spec
+    find-tablet-requires
+    enum-known-i
+    enum-told
+    judge-new-tablet-requires
+    returns
+    tablet-at-requires
+    same-tablet-requires
+    returns-2
+    returns-3)

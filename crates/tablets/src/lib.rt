@@ -1,0 +1,513 @@
+// Tablets, completeness, retirement, and the marks that a tablet or a placement raises.
+ghost use mathlib.Core.Path.{_≡_};
+ghost use mathlib.Core.Bool.{true, cond};
+ghost use Prim.Native.Nat.{max};
+ghost use lib.Dec.{eqb, leb};
+ghost use lib.ListN.{length, take};
+ghost use Rattle.laws.specs.Keyed.{put};
+ghost use Rattle.laws.specs.Lists.{any, tally};
+ghost use Rattle.metadata.specs.Rooms.{tabletRoom, retirementRoom};
+ghost use Rattle.metadata.specs.Answers.{isApplied};
+ghost use Rattle.metadata.specs.Tables.{tabletKey, retirementKey, tableOf, placementOf, isZeroTablet, isZeroRetirement};
+ghost use Rattle.metadata.specs.Commands.{tablet, retirement};
+ghost use Rattle.metadata.specs.Tablets.{isHash, inTable, holdsBucket, overlapAt, judgeHash, judgeRange, judgeNewTablet, judgeTablet, isReplicaRetired, desires, judgeKnownRetirement, judgeNewRetirement, judgeRetirement, isComplete, retirementOf};
+ghost use Rattle.metadata.specs.Model.{viewTables, viewTablets, viewPlacements, viewRetirements, packTablets, packRetirements, decided, raisedByTablet, raisedByPlacement, highestReplica};
+ghost use Rattle.metadata.specs.Sound.{soundTable};
+use admission::retirement_reason;
+use admission::tablet_reason;
+use fields::partitions_overlap;
+use laws::Found;
+use metadata::Answer;
+use metadata::DesiredReplica;
+use metadata::DesiredReplicaPlacement;
+use metadata::MetadataAllocatorState;
+use metadata::OptionalName;
+use metadata::Placements;
+use metadata::REPLICA_ROOM;
+use metadata::RETIREMENT_ROOM;
+use metadata::RaftGroupId;
+use metadata::ReplicaId;
+use metadata::RetiredReplicaLifetime;
+use metadata::Retirements;
+use metadata::TABLET_ROOM;
+use metadata::TableId;
+use metadata::TableRow;
+use metadata::Tables;
+use metadata::TabletDescriptor;
+use metadata::TabletId;
+use metadata::Tablets;
+use metadata::is_applied;
+use records::same_retirement;
+use records::same_tablet;
+use records::zero_retirement;
+use records::zero_table;
+use rows::placements::find_placement;
+use rows::placements::placement_at;
+use rows::retirements::find_retirement;
+use rows::retirements::insert_retirement;
+use rows::retirements::retirement_at;
+use rows::tables::find_table;
+use rows::tables::table_at;
+use rows::tablets::find_group;
+use rows::tablets::find_tablet;
+use rows::tablets::insert_tablet;
+use rows::tablets::tablet_at;
+
+// Retired in its group: the one test for it.
+pub fn is_replica_retired(group: RaftGroupId, replica: ReplicaId, retirements: Retirements) -> bool
+    ensures { λ r. ⌜ r ≡ isReplicaRetired (group .0) (replica .0) (viewRetirements retirements) ⌝ }
+{
+    let Found::At(_) = find_retirement(retirements, group, replica) else {
+        return false;
+    };
+    true
+}
+
+// The table's row; the zero row where there is none.
+pub fn table_of(id: TableId, tables: Tables) -> TableRow
+    ensures { λ r. ⌜ r ≡ tableOf (id .0) (viewTables tables) ⌝ }
+{
+    let Found::At(i) = find_table(tables, id) else {
+        return zero_table();
+    };
+    table_at(tables, i)
+}
+
+fn in_table(k: TableId, t: TabletDescriptor) -> bool
+    ensures { λ r. ⌜ r ≡ inTable k t ⌝ }
+{
+    t.table_id.0 == k.0
+}
+
+fn one(b: bool) -> usize
+    ensures { λ r. ⌜ r ≡ cond b 1 0 ⌝ }
+{
+    if b { 1 } else { 0 }
+}
+
+// How many tablets of both kinds the table has.
+pub fn count_in_table(k: TableId, tablets: Tablets) -> usize
+    ensures { λ r. ⌜ r ≡ tally (inTable k) (viewTablets tablets) ⌝ }
+{
+    let rows = tablets.rows;
+    let count = tablets.count;
+    let mut found: usize = 0;
+    let mut i = 0;
+    while i < count {
+        if TABLET_ROOM <= i {
+            return found;
+        }
+        found += one(in_table(k, rows[i]));
+        i += 1;
+    }
+    found
+}
+
+fn holds_bucket(k: TableId, bucket: u32, t: TabletDescriptor) -> bool
+    ensures { λ r. ⌜ r ≡ holdsBucket k bucket t ⌝ }
+{
+    (t.partition.kind == 0) & (in_table(k, t) & (t.partition.bucket == bucket))
+}
+
+// A Hash tablet of the table has the bucket.
+fn bucket_held(k: TableId, bucket: u32, tablets: Tablets) -> bool
+    ensures { λ r. ⌜ r ≡ any (holdsBucket k bucket) (viewTablets tablets) ⌝ }
+{
+    let rows = tablets.rows;
+    let count = tablets.count;
+    let mut i = 0;
+    while i < count {
+        if TABLET_ROOM <= i {
+            return false;
+        }
+        if holds_bucket(k, bucket, rows[i]) {
+            return true;
+        }
+        i += 1;
+    }
+    false
+}
+
+// The checks of a Hash tablet.
+pub fn judge_hash(tables: Tables, tablets: Tablets, t: TabletDescriptor) -> Answer
+    ensures { λ r. ⌜ r ≡ judgeHash (viewTables tables) (viewTablets tablets) t ⌝ }
+{
+    let id = t.table_id;
+    let bucket = t.partition.bucket;
+    let received = t.partition.bucket_count;
+    let limit = table_of(id, tables).tablet_count;
+    if received != limit {
+        return Answer::PartitionCountMismatch(id, limit, received);
+    }
+    if bucket_held(id, bucket, tablets) {
+        return Answer::PartitionConflict(id, bucket);
+    }
+    if (limit as usize) <= count_in_table(id, tablets) {
+        return Answer::TabletCountExceeded(id, limit);
+    }
+    Answer::Applied
+}
+
+// The new tablet's range against that of one row.
+fn overlap_at(t: TabletDescriptor, old: TabletDescriptor) -> Answer
+    ensures { λ r. ⌜ r ≡ overlapAt t old ⌝ }
+{
+    let id = old.tablet_id;
+    if (old.partition.kind == 1)
+        & (in_table(t.table_id, old) & partitions_overlap(t.partition, old.partition))
+    {
+        return Answer::RangeOverlap(id);
+    }
+    Answer::Applied
+}
+
+// The checks of a Range tablet: rows rise by id, so the first that overlaps has the lowest id.
+pub fn judge_range(tablets: Tablets, t: TabletDescriptor) -> Answer
+    ensures { λ r. ⌜ r ≡ judgeRange (viewTablets tablets) t ⌝ }
+{
+    let rows = tablets.rows;
+    let count = tablets.count;
+    let mut i = 0;
+    while i < count {
+        if TABLET_ROOM <= i {
+            return Answer::Applied;
+        }
+        let a = overlap_at(t, rows[i]);
+        if is_applied(a) {
+            i += 1;
+        } else {
+            return a;
+        }
+    }
+    Answer::Applied
+}
+
+fn judge_kind(tables: Tables, tablets: Tablets, t: TabletDescriptor) -> Answer
+    ensures { λ r. ⌜ r ≡ cond (isHash t) (judgeHash (viewTables tables) (viewTablets tablets) t) (judgeRange (viewTablets tablets) t) ⌝ }
+{
+    if t.partition.kind == 0 {
+        judge_hash(tables, tablets, t)
+    } else {
+        judge_range(tablets, t)
+    }
+}
+
+// No row is left for another tablet.
+fn tablets_full(tablets: Tablets) -> bool
+    ensures { λ r. ⌜ r ≡ leb tabletRoom (length (viewTablets tablets)) ⌝ }
+{
+    TABLET_ROOM <= tablets.count
+}
+
+// The checks of a tablet whose id is not known yet.
+pub fn judge_new_tablet(tables: Tables, tablets: Tablets, t: TabletDescriptor) -> Answer
+    ensures { λ r. ⌜ r ≡ judgeNewTablet (viewTables tables) (viewTablets tablets) t ⌝ }
+{
+    let group = t.raft_group_id;
+    let table = t.table_id;
+    if let Found::At(_) = find_group(tablets, group) {
+        return Answer::RaftGroupConflict(group);
+    }
+    let Found::At(_) = find_table(tables, table) else {
+        return Answer::UnknownTable(table);
+    };
+    let kind = judge_kind(tables, tablets, t);
+    if is_applied(kind) {
+        if tablets_full(tablets) {
+            return Answer::TableFull(1, TABLET_ROOM as u64);
+        }
+        return Answer::Applied;
+    }
+    kind
+}
+
+// The checks of a tablet, from top to bottom.
+pub fn judge_tablet(tables: Tables, tablets: Tablets, t: TabletDescriptor) -> Answer
+    ensures { λ r. ⌜ r ≡ judgeTablet (viewTables tables) (viewTablets tablets) t ⌝ }
+{
+    let id = t.tablet_id;
+    let Found::At(i) = find_tablet(tablets, id) else {
+        return judge_new_tablet(tables, tablets, t);
+    };
+    if same_tablet(tablet_at(tablets, i), t) {
+        return Answer::AlreadyApplied;
+    }
+    Answer::TabletIdConflict(id)
+}
+
+// The table has as many tablets as its tablet count says; no for an unknown table.
+pub fn is_complete(k: TableId, tables: Tables, tablets: Tablets) -> bool
+    ensures { λ r. ⌜ r ≡ isComplete k (viewTables tables) (viewTablets tablets) ⌝ }
+{
+    let Found::At(i) = find_table(tables, k) else {
+        return false;
+    };
+    let limit = table_at(tables, i).tablet_count;
+    count_in_table(k, tablets) == (limit as usize)
+}
+
+fn has_number(replica: ReplicaId, r: DesiredReplica) -> bool
+    ensures { λ b. ⌜ b ≡ eqb (r .«replica_id» .0) (replica .0) ⌝ }
+{
+    r.replica_id.0 == replica.0
+}
+
+// The replica number is desired.
+pub fn desires(replica: ReplicaId, p: DesiredReplicaPlacement) -> bool
+    ensures { λ r. ⌜ r ≡ desires (replica .0) p ⌝ }
+{
+    let replicas = p.replicas;
+    let to = p.replica_count as usize;
+    let mut i: usize = 0;
+    while i < to {
+        if REPLICA_ROOM <= i {
+            return false;
+        }
+        if has_number(replica, replicas[i]) {
+            return true;
+        }
+        i += 1;
+    }
+    false
+}
+
+// The replica number is desired in the tablet's placement; nothing is desired without one.
+fn still_desired(replica: ReplicaId, tablet: TabletId, placements: Placements) -> bool
+    ensures { λ r. ⌜ r ≡ desires (replica .0) (placementOf (tablet .0) (viewPlacements placements)) ⌝ }
+{
+    let Found::At(i) = find_placement(placements, tablet) else {
+        return false;
+    };
+    desires(replica, placement_at(placements, i))
+}
+
+// The retirement's row; the zero row where there is none.
+fn retirement_of(
+    group: RaftGroupId,
+    replica: ReplicaId,
+    retirements: Retirements,
+) -> RetiredReplicaLifetime
+    ensures { λ r. ⌜ r ≡ retirementOf (group .0) (replica .0) (viewRetirements retirements) ⌝ }
+{
+    let Found::At(i) = find_retirement(retirements, group, replica) else {
+        return zero_retirement();
+    };
+    retirement_at(retirements, i)
+}
+
+// A retirement that is known: the same row again, or another proof for the same replica.
+pub fn judge_known_retirement(retirements: Retirements, x: RetiredReplicaLifetime) -> Answer
+    ensures { λ r. ⌜ r ≡ judgeKnownRetirement (viewRetirements retirements) x ⌝ }
+{
+    let group = x.raft_group_id;
+    let replica = x.replica_id;
+    let known = retirement_of(group, replica, retirements);
+    if same_retirement(known, x) {
+        return Answer::AlreadyApplied;
+    }
+    Answer::RetirementProofConflict(group, replica)
+}
+
+// No row is left for another retirement.
+fn retirements_full(retirements: Retirements) -> bool
+    ensures { λ r. ⌜ r ≡ leb retirementRoom (length (viewRetirements retirements)) ⌝ }
+{
+    RETIREMENT_ROOM <= retirements.count
+}
+
+// The checks of a retirement that is not known yet; t is the tablet of its group.
+pub fn judge_new_retirement(
+    t: TabletDescriptor,
+    placements: Placements,
+    retirements: Retirements,
+    x: RetiredReplicaLifetime,
+) -> Answer
+    ensures { λ r. ⌜ r ≡ judgeNewRetirement t (viewPlacements placements) (viewRetirements retirements) x ⌝ }
+{
+    let tablet = t.tablet_id;
+    let received = x.desired_configuration_epoch;
+    let Found::At(i) = find_placement(placements, tablet) else {
+        return Answer::UnknownTablet(tablet);
+    };
+    let stored = placement_at(placements, i).configuration_epoch;
+    if received != stored {
+        return Answer::PlacementEpochMismatch(tablet, stored, received);
+    }
+    if retirements_full(retirements) {
+        return Answer::TableFull(2, RETIREMENT_ROOM as u64);
+    }
+    Answer::Applied
+}
+
+// The checks of a retirement, from top to bottom.
+pub fn judge_retirement(
+    tablets: Tablets,
+    placements: Placements,
+    retirements: Retirements,
+    x: RetiredReplicaLifetime,
+) -> Answer
+    ensures { λ r. ⌜ r ≡ judgeRetirement (viewTablets tablets) (viewPlacements placements) (viewRetirements retirements) x ⌝ }
+{
+    let group = x.raft_group_id;
+    let replica = x.replica_id;
+    let Found::At(i) = find_group(tablets, group) else {
+        return Answer::UnknownRaftGroup(group);
+    };
+    let t = tablet_at(tablets, i);
+    let wanted = still_desired(replica, t.tablet_id, placements);
+    let retired = is_replica_retired(group, replica, retirements);
+    if wanted {
+        return Answer::RetirementStillDesired(group, replica);
+    }
+    if retired {
+        return judge_known_retirement(retirements, x);
+    }
+    judge_new_retirement(t, placements, retirements, x)
+}
+
+pub fn larger(a: u64, b: u64) -> u64
+    ensures { λ r. ⌜ r ≡ max a b ⌝ }
+{
+    if a < b { b } else { a }
+}
+
+// The marks after an Applied tablet.
+pub fn raised_by_tablet(m: MetadataAllocatorState, t: TabletDescriptor) -> MetadataAllocatorState
+    ensures { λ r. ⌜ r ≡ raisedByTablet t m ⌝ }
+{
+    MetadataAllocatorState {
+        max_table_id: m.max_table_id,
+        max_tablet_id: larger(m.max_tablet_id, t.tablet_id.0),
+        max_raft_group_id: larger(m.max_raft_group_id, t.raft_group_id.0),
+        max_replica_id: m.max_replica_id,
+    }
+}
+
+// The mark, raised by the number of each of the first n replicas.
+fn highest_replica(replicas: [DesiredReplica; REPLICA_ROOM], n: u8, mark: u64) -> u64
+    ensures { λ r. ⌜ r ≡ highestReplica (take n replicas) mark ⌝ }
+{
+    let to = n as usize;
+    let mut high = mark;
+    let mut i: usize = 0;
+    while i < to {
+        if REPLICA_ROOM <= i {
+            return high;
+        }
+        high = larger(high, replicas[i].replica_id.0);
+        i += 1;
+    }
+    high
+}
+
+// The marks after an Applied placement.
+pub fn raised_by_placement(
+    m: MetadataAllocatorState,
+    p: DesiredReplicaPlacement,
+) -> MetadataAllocatorState
+    ensures { λ r. ⌜ r ≡ raisedByPlacement p m ⌝ }
+{
+    let replicas = p.replicas;
+    MetadataAllocatorState {
+        max_table_id: m.max_table_id,
+        max_tablet_id: m.max_tablet_id,
+        max_raft_group_id: m.max_raft_group_id,
+        max_replica_id: highest_replica(replicas, p.replica_count, m.max_replica_id),
+    }
+}
+
+// What a handler gives: the answer, and the one table that it changes.
+pub struct TabletsAnswered {
+    pub answer: Answer,
+    pub tablets: Tablets,
+}
+
+pub struct RetirementsAnswered {
+    pub answer: Answer,
+    pub retirements: Retirements,
+}
+
+// Every check of a tablet, from admission on.
+fn decide_tablet(
+    cluster_id: OptionalName,
+    tables: Tables,
+    tablets: Tablets,
+    t: TabletDescriptor,
+) -> Answer
+    ensures { λ r. ⌜ r ≡ decided «cluster_id» (tablet t) (judgeTablet (viewTables tables) (viewTablets tablets) t) ⌝ }
+{
+    let reason = tablet_reason(t);
+    if reason != 0 {
+        return Answer::InvalidCommand(reason);
+    }
+    if cluster_id.present {
+        return judge_tablet(tables, tablets, t);
+    }
+    Answer::NotInitialized
+}
+
+// Inner: the store's entry points show that the tablets are sound. An Applied tablet takes its place; any other answer changes nothing.
+pub fn apply_create_tablet(
+    cluster_id: OptionalName,
+    tables: Tables,
+    tablets: Tablets,
+    t: TabletDescriptor,
+) -> TabletsAnswered
+    requires { ⌜ soundTable tabletKey isZeroTablet tabletRoom (tablets .count) (tablets .rows) ≡ true ⌝ }
+    ensures { λ r. ⌜ (r .answer ≡ decided «cluster_id» (tablet t) (judgeTablet (viewTables tables) (viewTablets tablets) t)) × (r .tablets ≡ cond (isApplied (decided «cluster_id» (tablet t) (judgeTablet (viewTables tables) (viewTablets tablets) t))) (packTablets (put tabletKey t (viewTablets tablets))) tablets) ⌝ }
+{
+    let answer = decide_tablet(cluster_id, tables, tablets, t);
+    if is_applied(answer) {
+        let more = insert_tablet(tablets, t).tablets;
+        return TabletsAnswered {
+            answer,
+            tablets: more,
+        };
+    }
+    TabletsAnswered { answer, tablets }
+}
+
+// Every check of a retirement, from admission on.
+fn decide_retirement(
+    cluster_id: OptionalName,
+    tablets: Tablets,
+    placements: Placements,
+    retirements: Retirements,
+    x: RetiredReplicaLifetime,
+) -> Answer
+    ensures { λ r. ⌜ r ≡ decided «cluster_id» (retirement x) (judgeRetirement (viewTablets tablets) (viewPlacements placements) (viewRetirements retirements) x) ⌝ }
+{
+    let reason = retirement_reason(x);
+    if reason != 0 {
+        return Answer::InvalidCommand(reason);
+    }
+    if cluster_id.present {
+        return judge_retirement(tablets, placements, retirements, x);
+    }
+    Answer::NotInitialized
+}
+
+// Inner: the store's entry points show that the retirements are sound. An Applied retirement takes its place; any other answer changes nothing.
+pub fn apply_replica_retirement(
+    cluster_id: OptionalName,
+    tablets: Tablets,
+    placements: Placements,
+    retirements: Retirements,
+    x: RetiredReplicaLifetime,
+) -> RetirementsAnswered
+    requires { ⌜ soundTable retirementKey isZeroRetirement retirementRoom (retirements .count) (retirements .rows) ≡ true ⌝ }
+    ensures { λ r. ⌜ (r .answer ≡ decided «cluster_id» (retirement x) (judgeRetirement (viewTablets tablets) (viewPlacements placements) (viewRetirements retirements) x)) × (r .retirements ≡ cond (isApplied (decided «cluster_id» (retirement x) (judgeRetirement (viewTablets tablets) (viewPlacements placements) (viewRetirements retirements) x))) (packRetirements (put retirementKey x (viewRetirements retirements))) retirements) ⌝ }
+{
+    let answer = decide_retirement(cluster_id, tablets, placements, retirements, x);
+    if is_applied(answer) {
+        let more = insert_retirement(retirements, x).retirements;
+        return RetirementsAnswered {
+            answer,
+            retirements: more,
+        };
+    }
+    RetirementsAnswered {
+        answer,
+        retirements,
+    }
+}
