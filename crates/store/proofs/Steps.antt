@@ -12,7 +12,23 @@ use Rattle.metadata.specs.Tables.{nodeKey, tabletKey, placementKey, retirementK
 use Rattle.metadata.specs.Commands.{Command, naming, registering, lifecycle, tablet, placement, retirement, picking, lowest}
 use Rattle.metadata.specs.Nodes.{movedNodes, registeredNodes}
 use Rattle.metadata.specs.Model.{
-  admission, decided, decide, apply, step, view, pack, viewNodes, viewTablets, viewPlacements, viewRetirements, packNodes, packTablets, packPlacements, packRetirements, raisedByTablet, raisedByPlacement,
+  admission,
+  decided,
+  decide,
+  apply,
+  step,
+  view,
+  pack,
+  viewNodes,
+  viewTablets,
+  viewPlacements,
+  viewRetirements,
+  packNodes,
+  packTablets,
+  packPlacements,
+  packRetirements,
+  raisedByTablet,
+  raisedByPlacement,
 }
 use Rattle.metadata.specs.Sound.{soundTable, soundDirectory, soundCatalog, sound, entry}
 use Rattle.metadata.proofs.Packed.{pack-view}

@@ -18,7 +18,7 @@ use Rattle.metadata.specs.declared.Answered.{Answered}
 use Rattle.metadata.specs.declared.Reported.{Reported}
 use Rattle.metadata.specs.declared.Store.{Store}
 use Rattle.tape.specs.declared.Next.the-variants as N
-use Rattle.tape.specs.Tape.{commandAt, Reading, ended, stopped, then, nextAt, readFrom, tapeAnswers, numbersOf, numbers, written}
+use Rattle.tape.specs.Tape.{commandAt, Reading, ended, stopped, then, nextAt, readFrom, tapeAnswers, numbersOf, numbers, written, Done}
 use Rattle.tape.proofs.Reading.{read-end, read-whole}
 
 -- ---- numbers
@@ -167,12 +167,6 @@ pub record Runs (l : List ℕ) (s₀ : Store) (at₀ : ℕ) (out₀ : List ℕ) 
   pub store : run s₀ (readFrom l at₀ .commands) ≡ run s (readFrom l at .commands)
   pub rest : drop line (tapeAnswers s₀ (readFrom l at₀)) ≡ tapeAnswers s (readFrom l at)
   pub wrote : Written (tapeAnswers s₀ (readFrom l at₀)) out₀ out line
-
--- what a run leaves: the final store, and the answers with the rest as it was
-pub record Done (l : List ℕ) (s₀ : Store) (at₀ : ℕ) (out₀ : List ℕ) (s : Store) (out : List ℕ) : Type 0 where
-  pub store : s ≡ run s₀ (readFrom l at₀ .commands)
-  pub sounds : sound s ≡ true
-  pub answered : out ≡ numbers (tapeAnswers s₀ (readFrom l at₀)) ++ drop (4 * length (tapeAnswers s₀ (readFrom l at₀))) out₀
 
 pub runs-start : (l : List ℕ) (s₀ : Store) (at₀ : ℕ) (out₀ : List ℕ) → sound s₀ ≡ true →
     4 * (length (readFrom l at₀ .commands) + length (readFrom l at₀ .stop)) ≤ length out₀ → Runs l s₀ at₀ out₀ s₀ at₀ 0 out₀

@@ -1,5 +1,6 @@
 -- The command tape (document 01): what it holds, what it is answered, and the store that is left. Assumes nothing.
 use Prim.Native.Nat.{ℕ, zero, suc, _+_, _*_, _-_}
+use mathlib.Core.Path.{_≡_}
 use mathlib.Core.Bool.{Bool, true, false, cond, _&&_}
 use mathlib.Core.List.{List, [], _∷_, _++_}
 use lib.Dec.{leb, ltb, eqb}
@@ -9,11 +10,12 @@ use Rattle.metadata.specs.Rooms.{tableRoom}
 use Rattle.metadata.specs.Answers.{reported, isApplied}
 use Rattle.metadata.specs.Commands.{Command, naming, registering, lifecycle, tablet, placement, retirement, picking}
 use Rattle.metadata.specs.Opening.{opening, refusedStore}
-use Rattle.metadata.specs.Sound.{run, answers}
+use Rattle.metadata.specs.Sound.{sound, run, answers}
 use Rattle.metadata.specs.declared.Answer.{Answer}
 use Rattle.metadata.specs.declared.Answer.the-variants as A
 use Rattle.metadata.specs.declared.Answered.{Answered}
 use Rattle.tape.specs.declared.Next.{Next}
+use Rattle.tape.specs.declared.Ran.{Ran}
 use Rattle.tape.specs.declared.Next.the-variants as N
 use Rattle.metadata.specs.declared.Reported.{Reported}
 use Rattle.metadata.specs.declared.Store.{Store}
@@ -125,3 +127,19 @@ numbers (a ∷ l) = numbersOf (reported a) ++ numbers l
 -- four numbers in their place in a list
 abbrev pub written : List ℕ → ℕ → Reported → List ℕ
 written l at r = take at l ++ numbersOf r ++ drop (at + 4) l
+
+-- what the commands from a place on leave: the final store, which is sound, and their answers at the start of the list, whose rest is as it was
+pub record Done (l : List ℕ) (s₀ : Store) (at₀ : ℕ) (out₀ : List ℕ) (s : Store) (out : List ℕ) : Type 0 where
+  pub store : s ≡ run s₀ (readFrom l at₀ .commands)
+  pub sounds : sound s ≡ true
+  pub answered : out ≡ numbers (tapeAnswers s₀ (readFrom l at₀)) ++ drop (4 * length (tapeAnswers s₀ (readFrom l at₀))) out₀
+
+-- what a run of a whole tape gives where the list has this room: with too little of it nothing is run and nothing is written
+unfoldable pub ran : List ℕ → ℕ → Ran
+ran l room =
+    cond (leb (4 * length (outcome l)) room)
+    (record { opened = isApplied (openTape l .answer); short = false; lines = length (outcome l); store = finalStore l })
+    (record { opened = isApplied (openTape l .answer); short = true; lines = length (outcome l); store = openTape l .store })
+
+unfoldable pub ranOut : List ℕ → List ℕ → List ℕ
+ranOut l out = cond (leb (4 * length (outcome l)) (length out)) (numbers (outcome l) ++ drop (4 * length (outcome l)) out) out

@@ -5,6 +5,7 @@ ghost use lib.ListN.{length, set};
 ghost use Rattle.metadata.specs.Answers.{reported};
 ghost use Rattle.tape.specs.Tape.{isCommand, sizeOf, nextAt, readFrom, lines, written};
 use metadata::Answer;
+use metadata::Store;
 use metadata::report;
 
 // What stands at a place of a tape: nothing more, an unknown byte, a command that is cut short, or a whole command with its byte and the place of the next.
@@ -13,6 +14,14 @@ pub enum Next {
     Unknown(u8),
     Cut(u8),
     Whole(u8, usize),
+}
+
+// A run of a whole tape: whether the opening was accepted, whether the list was too short for the answers, how many there are, and the store.
+pub struct Ran {
+    pub opened: bool,
+    pub short: bool,
+    pub lines: usize,
+    pub store: Store,
 }
 
 pub fn is_command(b: u8) -> bool
