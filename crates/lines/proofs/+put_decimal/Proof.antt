@@ -1,0 +1,152 @@
+use Rattle.lines.proofs.Texts.{alone, fewer, smaller, room-behind, last-digit}
+use borrow.Author.Needs.{needs}
+use Prim.Native.Nat.{ℕ, _<_}
+use borrow.Fn.Kinds.{In}
+use borrow.Fn.PlainCycle.{Measures, is, falls, and}
+use Rattle.lines.proofs.put_decimal.Reads as put-decimal
+use Rattle.lines.proofs.put_decimal.Kinds as put-decimal-kinds
+use Rattle.lines.proofs.+put_decimal.Lts-put_decimal as put-decimal-lts
+use Rattle.lines.proofs.put_byte.Reads as put-byte-reads
+use Rattle.lines.proofs.+put_decimal.{statement}
+use Rattle.lines.proofs.+put_decimal.Tie.{close}
+
+abbrev μ-put-decimal : Measures 1 put-decimal-kinds.ps ℕ
+μ-put-decimal κs a = a .1 .1 .1 .0
+
+abbrev put-decimal-at : ℕ → In 1 put-decimal-kinds.ps
+put-decimal-at t =
+    and 1 put-decimal-kinds.ps (is 1 put-decimal-kinds.ps μ-put-decimal t) put-decimal.Pre
+
+abbrev put-decimal-below : ℕ → In 1 put-decimal-kinds.ps
+put-decimal-below t =
+    and 1 put-decimal-kinds.ps (falls 1 put-decimal-kinds.ps _<_ μ-put-decimal t) put-decimal.Pre
+
+-- src/lib.rt:23:35
+put-decimal-add-put-byte : (t : ℕ) → put-decimal-lts.Need-add-put-byte (
+  put-byte-reads.Asked,
+  put-byte-reads.Learnt,
+  put-decimal-below t,
+  put-decimal.Post,
+) (put-decimal-at t) put-decimal.Post
+put-decimal-add-put-byte t c = search needs
+
+-- src/lib.rt:23:34
+put-decimal-cast-put-byte : (t : ℕ) → put-decimal-lts.Need-cast-put-byte (
+  put-byte-reads.Asked,
+  put-byte-reads.Learnt,
+  put-decimal-below t,
+  put-decimal.Post,
+) (put-decimal-at t) put-decimal.Post
+put-decimal-cast-put-byte t c = search needs
+
+-- src/lib.rt:23:9
+put-decimal-put-byte-requires : (t : ℕ) → put-decimal-lts.Need-put-byte-requires (
+  put-byte-reads.Asked,
+  put-byte-reads.Learnt,
+  put-decimal-below t,
+  put-decimal.Post,
+) (put-decimal-at t) put-decimal.Post
+put-decimal-put-byte-requires t c κs = search needs
+
+-- src/lib.rt:23:9
+put-decimal-same-length : (t : ℕ) → put-decimal-lts.Need-same-length (
+  put-byte-reads.Asked,
+  put-byte-reads.Learnt,
+  put-decimal-below t,
+  put-decimal.Post,
+) (put-decimal-at t) put-decimal.Post
+put-decimal-same-length t c = search needs
+
+-- src/lib.rt:23:9
+put-decimal-returns : (t : ℕ) → put-decimal-lts.Need-returns (
+  put-byte-reads.Asked,
+  put-byte-reads.Learnt,
+  put-decimal-below t,
+  put-decimal.Post,
+) (put-decimal-at t) put-decimal.Post
+put-decimal-returns t c = search (needs, alone)
+
+-- src/lib.rt:25:45
+put-decimal-sub-put-decimal : (t : ℕ) → put-decimal-lts.Need-sub-put-decimal (
+  put-byte-reads.Asked,
+  put-byte-reads.Learnt,
+  put-decimal-below t,
+  put-decimal.Post,
+) (put-decimal-at t) put-decimal.Post
+put-decimal-sub-put-decimal t c = search needs
+
+-- src/lib.rt:25:9
+put-decimal-put-decimal-requires : (t : ℕ) → put-decimal-lts.Need-put-decimal-requires (
+  put-byte-reads.Asked,
+  put-byte-reads.Learnt,
+  put-decimal-below t,
+  put-decimal.Post,
+) (put-decimal-at t) put-decimal.Post
+put-decimal-put-decimal-requires t c κs = search (needs, fewer, smaller)
+
+-- src/lib.rt:26:26
+put-decimal-add-put-byte-2 : (t : ℕ) → put-decimal-lts.Need-add-put-byte-2 (
+  put-byte-reads.Asked,
+  put-byte-reads.Learnt,
+  put-decimal-below t,
+  put-decimal.Post,
+) (put-decimal-at t) put-decimal.Post
+put-decimal-add-put-byte-2 t c = search needs
+
+-- src/lib.rt:26:25
+put-decimal-cast-put-byte-2 : (t : ℕ) → put-decimal-lts.Need-cast-put-byte-2 (
+  put-byte-reads.Asked,
+  put-byte-reads.Learnt,
+  put-decimal-below t,
+  put-decimal.Post,
+) (put-decimal-at t) put-decimal.Post
+put-decimal-cast-put-byte-2 t c = search needs
+
+-- src/lib.rt:26:5
+put-decimal-put-byte-requires-2 : (t : ℕ) → put-decimal-lts.Need-put-byte-requires-2 (
+  put-byte-reads.Asked,
+  put-byte-reads.Learnt,
+  put-decimal-below t,
+  put-decimal.Post,
+) (put-decimal-at t) put-decimal.Post
+put-decimal-put-byte-requires-2 t c κs = search (needs, room-behind)
+
+-- src/lib.rt:18:1
+put-decimal-same-length-2 : (t : ℕ) → put-decimal-lts.Need-same-length-2 (
+  put-byte-reads.Asked,
+  put-byte-reads.Learnt,
+  put-decimal-below t,
+  put-decimal.Post,
+) (put-decimal-at t) put-decimal.Post
+put-decimal-same-length-2 t c = search needs
+
+-- src/lib.rt:18:1
+put-decimal-returns-2 : (t : ℕ) → put-decimal-lts.Need-returns-2 (
+  put-byte-reads.Asked,
+  put-byte-reads.Learnt,
+  put-decimal-below t,
+  put-decimal.Post,
+) (put-decimal-at t) put-decimal.Post
+put-decimal-returns-2 t c = search (needs, last-digit)
+
+pub +put-decimal-spec : {M : Type 1} → statement M
++put-decimal-spec = close μ-put-decimal λ t. put-decimal-lts.spec (
+  put-byte-reads.Asked,
+  put-byte-reads.Learnt,
+  put-decimal-below t,
+  put-decimal.Post,
+)
+    (put-decimal-at t)
+    put-decimal.Post
+    (put-decimal-add-put-byte t)
+    (put-decimal-cast-put-byte t)
+    (put-decimal-put-byte-requires t)
+    (put-decimal-same-length t)
+    (put-decimal-returns t)
+    (put-decimal-sub-put-decimal t)
+    (put-decimal-put-decimal-requires t)
+    (put-decimal-add-put-byte-2 t)
+    (put-decimal-cast-put-byte-2 t)
+    (put-decimal-put-byte-requires-2 t)
+    (put-decimal-same-length-2 t)
+    (put-decimal-returns-2 t)

@@ -1,0 +1,3 @@
+-- The laws that belong to no one function. Assumes nothing.
+pub mod Front
+pub mod Whole
