@@ -1,5 +1,5 @@
 ghost use mathlib.Core.Path.{_≡_};
-ghost use Rattle.metadata.specs.Marks.{initialMarks};
+ghost use Rattle.metadata.specs.Marks.{initialMarks, nextReplicaId};
 ghost use Rattle.metadata.specs.Answers.{isApplied, report, reported};
 
 // The tables of the metadata store: who holds what. Types carry the names of the Rust source where it has one.
@@ -157,6 +157,16 @@ impl MetadataAllocatorState {
             max_raft_group_id,
             max_replica_id: MetadataAllocatorState::INITIAL_REPLICA_HIGH_WATER,
         }
+    }
+
+    // Mark plus one, none at the limit.
+    pub fn next_replica_id(self) -> NextReplicaId
+        ensures { λ r. ⌜ r ≡ nextReplicaId self ⌝ }
+    {
+        if self.max_replica_id == MetadataAllocatorState::LIMIT {
+            return NextReplicaId::Exhausted;
+        }
+        NextReplicaId::Next(ReplicaId(self.max_replica_id + 1))
     }
 }
 

@@ -48,6 +48,7 @@ use Rattle.metadata.specs.declared.Tablets.{Tablets}
 use Rattle.metadata.specs.declared.Placements.{Placements}
 use Rattle.metadata.specs.declared.Retirements.{Retirements}
 use Rattle.metadata.specs.declared.Store.{Store}
+use Rattle.store.specs.Lookups.{unsound}
 
 -- the store with one part put in its place
 abbrev pub withName : Store → OptionalName → Store
@@ -203,8 +204,12 @@ module _ (s : Store) (e : sound s ≡ true) where
 
 -- ---- the entry points
 
-pub entry-refused : (s : Store) (c : Command) (b : Bool) → b ≡ sound s → b ≡ false → _≡_ {A = Answered} (record { answer = A.InvalidCommand 12; store = s }) (entry s c)
-entry-refused s c b p e = rw (← p, e)
+-- b is what the test of the store gave
+pub test-true : (s : Store) (b : Bool) → b ≡ sound s → b ≡ true → sound s ≡ true
+test-true s b p e = sym p ∙ e
+
+pub entry-refused : (s : Store) (c : Command) (b : Bool) (r : Answered) → b ≡ sound s → b ≡ false → r ≡ unsound s → r ≡ entry s c
+entry-refused s c b r p e q = rw (← p, e) q
 
 pub entry-taken : (s : Store) (c : Command) (b : Bool) (r : Answered) → b ≡ sound s → b ≡ true → r ≡ step s c → r ≡ entry s c
 entry-taken s c b r p e q = rw (← p, e) q
@@ -227,3 +232,11 @@ pub sound-retirements : (s : Store) → sound s ≡ true →
     soundTable retirementKey isZeroRetirement retirementRoom (s .catalog .retirements .count) (s .catalog .retirements .rows) ≡ true
 unfolding sound soundCatalog
 sound-retirements s e = each-of _ (each-of _ e .1 .0) .1 .1 .1 .1 .1 .0
+
+-- ---- marks
+
+pub marks-raised : (a : Answer) (b : Bool) (r x m : MetadataAllocatorState) → b ≡ isApplied a → b ≡ true → r ≡ x → r ≡ cond (isApplied a) x m
+marks-raised a b r x m p e q = rw (← p, e) q
+
+pub marks-kept : (a : Answer) (b : Bool) (x m : MetadataAllocatorState) → b ≡ isApplied a → b ≡ false → m ≡ cond (isApplied a) x m
+marks-kept a b x m p e = rw (← p, e)
