@@ -1,18 +1,17 @@
 -- The best of the nodes, as a loop that goes up, and the choice, as a loop that takes one more each time. Assumes nothing.
-use Prim.Native.Nat.{ℕ, zero, suc, _+_, _-_, _≤_, _<_}
-use native.Mathlib.Numerals.{add-one}
+use Prim.Native.Nat.{ℕ, suc, _+_, _-_, _≤_, _<_}
 use native.Mathlib.Omega.{arith}
-use mathlib.Core.Path.{_≡_, refl, sym, ap, _∙_}
-use mathlib.Core.Bool.{Bool, true, false, not, cond, _&&_}
+use mathlib.Core.Path.{_≡_, sym, ap, _∙_}
+use mathlib.Core.Bool.{Bool, true, false, not}
 use mathlib.Core.List.{List, [], _∷_, _++_}
-use mathlib.Core.Option.{Option, some, none}
+use mathlib.Core.Option.{some, none}
 use lib.ListN.{length, getD, take}
 use lib.Seq.{slice}
 use borrow.Author.Needs.{needs}
 use borrow.Author.Tests.{not-true, not-false}
 use Rattle.laws.proofs.Rows.{next, none-left, no-room-left, length-mapped}
 use Rattle.metadata.specs.Rooms.{initialReplicationFactor}
-use Rattle.metadata.specs.Labels.{better, candidate, beats, stepBest, bestOf, onBest, chooseFrom, choose}
+use Rattle.metadata.specs.Labels.{better, candidate, stepBest, bestOf, chooseFrom, choose}
 use Rattle.metadata.specs.declared.NodeDescriptor.{NodeDescriptor}
 use Rattle.labels.specs.Picks.{chosenNodes, bestFound}
 use Rattle.labels.specs.declared.Best.{Best}

@@ -11,7 +11,6 @@ use Rattle.metadata.specs.Rooms.{replicaRoom}
 use Rattle.metadata.specs.Texts.{noLabel}
 use Rattle.metadata.specs.Answers.{_⊳_, refuse}
 use Rattle.metadata.specs.Labels.{newLabel, distinct, regions, zones, racks, localityGain, choose, policyOf, idAt, selectInitialPlacement, judgePicking}
-use Rattle.metadata.specs.declared.Answer.{Answer}
 use Rattle.metadata.specs.declared.Answer.the-variants as A
 use Rattle.metadata.specs.declared.NodeId.{NodeId}
 use Rattle.metadata.specs.declared.PlacementPolicy.{PlacementPolicy}

@@ -3,8 +3,8 @@
 ghost use mathlib.Core.Path.{_≡_};
 ghost use mathlib.Core.Bool.{true, cond};
 ghost use Rattle.metadata.specs.Answers.{isApplied};
-ghost use Rattle.metadata.specs.Commands.{tablet, retirement, picking};
-ghost use Rattle.metadata.specs.Model.{step, raisedByTablet};
+ghost use Rattle.metadata.specs.Commands.{naming, registering, lifecycle, tablet, placement, retirement, picking};
+ghost use Rattle.metadata.specs.Model.{step, raisedByTablet, raisedByPlacement};
 ghost use Rattle.metadata.specs.Sound.{sound, entry};
 ghost use Rattle.store.specs.Lookups.{nodeFound, tabletFound, placementFound, retirementFound, nextFound, completeness, unsound};
 ghost use Rattle.opening.specs.Opened.{openingOf};
@@ -13,7 +13,9 @@ use metadata::Answer;
 use metadata::Answered;
 use metadata::Catalog;
 use metadata::DesiredReplicaPlacement;
+use metadata::Directory;
 use metadata::MetadataAllocatorState;
+use metadata::Name;
 use metadata::NextReplicaId;
 use metadata::NodeDescriptor;
 use metadata::NodeId;
@@ -159,6 +161,128 @@ pub fn initial_placement_step(s: Store) -> Answered
     Answered { answer, store: s }
 }
 
+// Inner: the entry point and the tape's run show that the store is sound.
+pub fn cluster_initialized_step(s: Store, t: Name) -> Answered
+    requires { ⌜ sound s ≡ true ⌝ }
+    ensures { λ r. ⌜ r ≡ step s (naming t) ⌝ }
+{
+    let directory = s.directory;
+    let catalog = s.catalog;
+    let nodes = directory.nodes;
+    let done = nodes::naming::apply_cluster_initialized(directory.cluster_id, t);
+    let answer = done.answer;
+    let cluster_id = done.cluster_id;
+    Answered {
+        answer,
+        store: Store {
+            directory: Directory { cluster_id, nodes },
+            catalog,
+        },
+    }
+}
+
+// Inner: the entry point and the tape's run show that the store is sound.
+pub fn register_node_step(s: Store, n: NodeDescriptor) -> Answered
+    requires { ⌜ sound s ≡ true ⌝ }
+    ensures { λ r. ⌜ r ≡ step s (registering n) ⌝ }
+{
+    let directory = s.directory;
+    let catalog = s.catalog;
+    let cluster_id = directory.cluster_id;
+    let done = nodes::registering::apply_register_node(
+        cluster_id,
+        directory.nodes,
+        catalog.tablets,
+        catalog.placements,
+        n,
+    );
+    let answer = done.answer;
+    let nodes = done.nodes;
+    Answered {
+        answer,
+        store: Store {
+            directory: Directory { cluster_id, nodes },
+            catalog,
+        },
+    }
+}
+
+// Inner: the entry point and the tape's run show that the store is sound.
+pub fn set_node_lifecycle_step(s: Store, k: NodeId, to: u8) -> Answered
+    requires { ⌜ sound s ≡ true ⌝ }
+    ensures { λ r. ⌜ r ≡ step s (lifecycle k to) ⌝ }
+{
+    let directory = s.directory;
+    let catalog = s.catalog;
+    let cluster_id = directory.cluster_id;
+    let done = nodes::lifecycle::apply_set_node_lifecycle(
+        cluster_id,
+        directory.nodes,
+        catalog.tablets,
+        catalog.placements,
+        k,
+        to,
+    );
+    let answer = done.answer;
+    let nodes = done.nodes;
+    Answered {
+        answer,
+        store: Store {
+            directory: Directory { cluster_id, nodes },
+            catalog,
+        },
+    }
+}
+
+fn marks_after_placement(
+    answer: Answer,
+    m: MetadataAllocatorState,
+    p: DesiredReplicaPlacement,
+) -> MetadataAllocatorState
+    ensures { λ r. ⌜ r ≡ cond (isApplied answer) (raisedByPlacement p m) m ⌝ }
+{
+    if is_applied(answer) {
+        return tablets::raised_by_placement(m, p);
+    }
+    m
+}
+
+// Inner: the entry point and the tape's run show that the store is sound.
+pub fn desired_placement_step(s: Store, p: DesiredReplicaPlacement) -> Answered
+    requires { ⌜ sound s ≡ true ⌝ }
+    ensures { λ r. ⌜ r ≡ step s (placement p) ⌝ }
+{
+    let directory = s.directory;
+    let catalog = s.catalog;
+    let tables = catalog.tables;
+    let tablets = catalog.tablets;
+    let retirements = catalog.retirements;
+    let done = placements::apply_desired_placement(
+        directory.cluster_id,
+        directory.nodes,
+        tablets,
+        catalog.placements,
+        retirements,
+        p,
+    );
+    let answer = done.answer;
+    let placements = done.placements;
+    let marks = marks_after_placement(answer, catalog.marks, p);
+    Answered {
+        answer,
+        store: Store {
+            directory,
+            catalog: Catalog {
+                tables,
+                tablets,
+                placements,
+                retirements,
+                marks,
+            },
+        },
+    }
+}
+
 // ---- the entry points
 
 pub fn apply_create_tablet(s: Store, t: TabletDescriptor) -> Answered
@@ -184,6 +308,42 @@ pub fn select_initial_placement(s: Store) -> Answered
 {
     if soundness::sound(s) {
         return initial_placement_step(s);
+    }
+    refused(s)
+}
+
+pub fn apply_cluster_initialized(s: Store, t: Name) -> Answered
+    ensures { λ r. ⌜ r ≡ entry s (naming t) ⌝ }
+{
+    if soundness::sound(s) {
+        return cluster_initialized_step(s, t);
+    }
+    refused(s)
+}
+
+pub fn apply_register_node(s: Store, n: NodeDescriptor) -> Answered
+    ensures { λ r. ⌜ r ≡ entry s (registering n) ⌝ }
+{
+    if soundness::sound(s) {
+        return register_node_step(s, n);
+    }
+    refused(s)
+}
+
+pub fn apply_set_node_lifecycle(s: Store, k: NodeId, to: u8) -> Answered
+    ensures { λ r. ⌜ r ≡ entry s (lifecycle k to) ⌝ }
+{
+    if soundness::sound(s) {
+        return set_node_lifecycle_step(s, k, to);
+    }
+    refused(s)
+}
+
+pub fn apply_desired_placement(s: Store, p: DesiredReplicaPlacement) -> Answered
+    ensures { λ r. ⌜ r ≡ entry s (placement p) ⌝ }
+{
+    if soundness::sound(s) {
+        return desired_placement_step(s, p);
     }
     refused(s)
 }

@@ -1,13 +1,12 @@
 -- A law for each way out of a decision, over any command; and what an Applied one leaves in the table. Assumes nothing.
 use Prim.Native.Nat.{ℕ, _<_}
 use native.Mathlib.Omega.{arith}
-use mathlib.Core.Path.{_≡_, refl, sym, ap, _∙_}
+use mathlib.Core.Path.{_≡_, sym, ap, _∙_}
 use mathlib.Core.Bool.{Bool, true, false, cond}
 use mathlib.Core.List.{List, []}
-use lib.ListN.{length, take}
 use borrow.Author.Tests.{eq-eqb, ne-eqb}
 use Rattle.laws.specs.Keyed.{put}
-use Rattle.laws.proofs.ListLaws.{cond-true, cond-false}
+use Rattle.laws.proofs.ListLaws.{cond-true}
 use Rattle.laws.proofs.Packed.{counted}
 use Rattle.metadata.specs.Rooms.{tabletRoom, retirementRoom}
 use Rattle.metadata.specs.Marks.{initialMarks}

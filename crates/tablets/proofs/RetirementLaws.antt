@@ -1,7 +1,7 @@
 -- A law for each way out of the functions on retirements. Assumes nothing.
 use Prim.Native.Nat.{ℕ}
-use mathlib.Core.Path.{_≡_, refl, sym, _∙_}
-use mathlib.Core.Bool.{Bool, true, false, cond}
+use mathlib.Core.Path.{_≡_, sym, _∙_}
+use mathlib.Core.Bool.{Bool, true, false}
 use mathlib.Core.List.{List}
 use lib.Dec.{leb}
 use lib.ListN.{length, getD, take}
@@ -12,7 +12,7 @@ use Rattle.laws.specs.declared.Found.{Found}
 use Rattle.laws.specs.declared.Found.the-variants.{At, Nothing}
 use Rattle.laws.proofs.KeyedLaws.{row-absent}
 use Rattle.metadata.specs.Rooms.{retirementRoom}
-use Rattle.metadata.specs.Answers.{isApplied, _⊳_, refuse}
+use Rattle.metadata.specs.Answers.{_⊳_, refuse}
 use Rattle.metadata.specs.Tables.{groupKey, placementKey, placementOf, blankTablet, blankPlacement, zeroTablet, zeroPlacement, sameRetirement}
 use Rattle.metadata.specs.Tablets.{isReplicaRetired, retirementOf, desires, judgeKnownRetirement, judgeNewRetirement, judgeRetirement}
 use Rattle.metadata.specs.declared.Answer.{Answer}

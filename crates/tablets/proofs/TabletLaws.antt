@@ -1,19 +1,18 @@
 -- A law for each way out of the functions on tablets. Assumes nothing.
 use Prim.Native.Nat.{ℕ, _≤_, _<_}
-use mathlib.Core.Path.{_≡_, refl, sym, _∙_}
+use mathlib.Core.Path.{_≡_, _∙_}
 use mathlib.Core.Bool.{Bool, true, false, cond, _&&_}
 use mathlib.Core.List.{List}
 use lib.Dec.{leb, eqb}
 use lib.ListN.{length, getD, take}
 use borrow.Author.Tests.{eq-eqb, ne-eqb, le-leb, lt-leb}
-use Rattle.laws.specs.Keyed.{has, row}
 use Rattle.laws.specs.Lists.{any, tally}
 use Rattle.laws.specs.Rows.{findIndex}
 use Rattle.laws.specs.declared.Found.{Found}
 use Rattle.laws.specs.declared.Found.the-variants.{At, Nothing}
 use Rattle.metadata.specs.Rooms.{tabletRoom}
 use Rattle.metadata.specs.Answers.{isApplied, _⊳_, refuse}
-use Rattle.metadata.specs.Tables.{tableKey, tabletKey, groupKey, tableOf, tabletOf, zeroTable, zeroTablet, blankTablet, sameTablet}
+use Rattle.metadata.specs.Tables.{tableKey, tabletKey, groupKey, tableOf, zeroTable, zeroTablet, blankTablet, sameTablet}
 use Rattle.metadata.specs.Tablets.{isHash, isRange, inTable, holdsBucket, partitionsOverlap, overlapAt, judgeHash, judgeRange, judgeNewTablet, judgeTablet, isComplete}
 use Rattle.metadata.specs.declared.Answer.{Answer}
 use Rattle.metadata.specs.declared.Answer.the-variants as A

@@ -1,7 +1,7 @@
 // Tablets, completeness, retirement, and the marks that a tablet or a placement raises.
 ghost use mathlib.Core.Path.{_≡_};
 ghost use mathlib.Core.Bool.{true, cond};
-ghost use Prim.Native.Nat.{max};
+ghost use Prim.Native.Nat.{_≤_, max};
 ghost use lib.Dec.{eqb, leb};
 ghost use lib.ListN.{length, take};
 ghost use Rattle.laws.specs.Keyed.{put};
@@ -80,7 +80,7 @@ fn in_table(k: TableId, t: TabletDescriptor) -> bool
 }
 
 fn one(b: bool) -> usize
-    ensures { λ r. ⌜ r ≡ cond b 1 0 ⌝ }
+    ensures { λ r. ⌜ (r ≡ cond b 1 0) × (r ≤ 1) ⌝ }
 {
     if b { 1 } else { 0 }
 }
@@ -97,7 +97,8 @@ pub fn count_in_table(k: TableId, tablets: Tablets) -> usize
         if TABLET_ROOM <= i {
             return found;
         }
-        found += one(in_table(k, rows[i]));
+        let row = rows[i];
+        found += one(in_table(k, row));
         i += 1;
     }
     found

@@ -3,8 +3,7 @@ use Prim.Native.Nat.{_-_}
 use Rattle.metadata.specs.Rooms.{tabletRoom}
 use Rattle.metadata.specs.Tables.{blankTablet}
 use Rattle.metadata.specs.Tablets.{inTable}
-use Rattle.laws.proofs.Tally.{Tallying, one-most, tallying}
-use native.Mathlib.Omega.{arith}
+use Rattle.laws.proofs.Tally.{Tallying, tallying}
 use Rattle.tablets.proofs.count_in_table.Statement.{statement}
 use Rattle.tablets.proofs.count_in_table.Tie as tie
 
@@ -20,11 +19,11 @@ loop-holds c = search tallying
 returns : tie.Need-returns Inv-loop μ-loop
 returns c = search tallying
 
-mul-in-table : tie.Need-mul-in-table Inv-loop μ-loop
-mul-in-table c = search tallying
+mul-row : tie.Need-mul-row Inv-loop μ-loop
+mul-row c = search tallying
 
-array-copy-out-in-table : tie.Need-array-copy-out-in-table Inv-loop μ-loop
-array-copy-out-in-table c = search tallying
+array-copy-out-row : tie.Need-array-copy-out-row Inv-loop μ-loop
+array-copy-out-row c = search tallying
 
 in-table-requires : tie.Need-in-table-requires Inv-loop μ-loop
 in-table-requires c κs = search tallying
@@ -33,7 +32,7 @@ one-requires : tie.Need-one-requires Inv-loop μ-loop
 one-requires c κs = search tallying
 
 add-found : tie.Need-add-found Inv-loop μ-loop
-add-found c = omega (arith, one-most (c .before .in-table .result))
+add-found c = search tallying
 
 add-i : tie.Need-add-i Inv-loop μ-loop
 add-i c = search tallying
@@ -55,8 +54,8 @@ count-in-table-spec =
     μ-loop
     loop-holds
     returns
-    mul-in-table
-    array-copy-out-in-table
+    mul-row
+    array-copy-out-row
     in-table-requires
     one-requires
     add-found

@@ -1,0 +1,207 @@
+// Lifecycle: a node moves one step forward at a time, and leaves only when no tablet expects it.
+ghost use mathlib.Core.Path.{_≡_};
+ghost use mathlib.Core.Bool.{true, cond};
+ghost use lib.ListN.{take};
+ghost use Rattle.laws.specs.Keyed.{has};
+ghost use Rattle.metadata.specs.Rooms.{nodeRoom};
+ghost use Rattle.metadata.specs.Answers.{each, isApplied};
+ghost use Rattle.metadata.specs.Tables.{nodeKey, placementOf, desired, isZeroNode};
+ghost use Rattle.metadata.specs.Nodes.{lifecycleCanAdvance, stillExpected, judgeLifecycle, movedNodes};
+ghost use Rattle.metadata.specs.Model.{viewNodes, viewTablets, viewPlacements, packNodes};
+ghost use Rattle.metadata.specs.Sound.{soundTable};
+ghost use Rattle.nodes.specs.Steps.{expectedOn, lifecycleAnswer};
+use crate::NodesAnswered;
+use admission::lifecycle_reason;
+use laws::Found;
+use metadata::Answer;
+use metadata::DesiredReplica;
+use metadata::DesiredReplicaPlacement;
+use metadata::NodeId;
+use metadata::Nodes;
+use metadata::OptionalName;
+use metadata::Placements;
+use metadata::REPLICA_ROOM;
+use metadata::RaftGroupId;
+use metadata::TABLET_ROOM;
+use metadata::TabletDescriptor;
+use metadata::Tablets;
+use metadata::is_applied;
+use records::with_lifecycle;
+use rows::nodes::find_node;
+use rows::nodes::node_at;
+use rows::nodes::with_node;
+use rows::placements::find_placement;
+use rows::placements::placement_at;
+
+// 0 Active, 1 Draining, 2 Decommissioning, 3 Decommissioned, 4 Tombstoned.
+const LIFECYCLES: usize = 5;
+
+const DECOMMISSIONED: u8 = 3;
+
+const TOMBSTONED: u8 = 4;
+
+// Which move is allowed: a row for each lifecycle to move from, with a place for each to move to.
+const MOVES: [[bool; LIFECYCLES]; LIFECYCLES] = [
+    [false, true, false, false, false],
+    [false, false, true, false, false],
+    [false, false, false, true, false],
+    [false, false, false, false, true],
+    [false, false, false, false, false],
+];
+
+// Only one step forward; no move from or to what is no lifecycle.
+pub fn lifecycle_can_advance(from: u8, to: u8) -> bool
+    ensures { λ r. ⌜ r ≡ lifecycleCanAdvance from to ⌝ }
+{
+    let row = from as usize;
+    let place = to as usize;
+    if LIFECYCLES <= row {
+        return false;
+    }
+    if LIFECYCLES <= place {
+        return false;
+    }
+    MOVES[row][place]
+}
+
+// A copy of the group stands on the node.
+fn expected_on(k: NodeId, group: RaftGroupId, r: DesiredReplica) -> Answer
+    ensures { λ a. ⌜ a ≡ expectedOn k group r ⌝ }
+{
+    if r.node_id.0 == k.0 {
+        let replica = r.replica_id;
+        return Answer::NodeStillExpected(k, group, replica);
+    }
+    Answer::Applied
+}
+
+// The first copy of the placement that stands on the node.
+fn expected_in(k: NodeId, group: RaftGroupId, p: DesiredReplicaPlacement) -> Answer
+    ensures { λ r. ⌜ r ≡ each (expectedOn k group) (desired p) ⌝ }
+{
+    let replicas = p.replicas;
+    let count = p.replica_count as usize;
+    let mut i: usize = 0;
+    while i < count {
+        if REPLICA_ROOM <= i {
+            return Answer::Applied;
+        }
+        let a = expected_on(k, group, replicas[i]);
+        if is_applied(a) {
+            i += 1;
+        } else {
+            return a;
+        }
+    }
+    Answer::Applied
+}
+
+// The same of a tablet's placement; without one nothing is expected.
+fn expected_of(k: NodeId, t: TabletDescriptor, placements: Placements) -> Answer
+    ensures { λ r. ⌜ r ≡ each (expectedOn k (t .«raft_group_id»)) (desired (placementOf (t .«tablet_id» .0) (viewPlacements placements))) ⌝ }
+{
+    let Found::At(i) = find_placement(placements, t.tablet_id) else {
+        return Answer::Applied;
+    };
+    expected_in(k, t.raft_group_id, placement_at(placements, i))
+}
+
+// The first copy on the node, by tablet id, then in the placement's order.
+pub fn still_expected(k: NodeId, tablets: Tablets, placements: Placements) -> Answer
+    ensures { λ r. ⌜ r ≡ stillExpected k (viewTablets tablets) (viewPlacements placements) ⌝ }
+{
+    let rows = tablets.rows;
+    let count = tablets.count;
+    let mut i: usize = 0;
+    while i < count {
+        if TABLET_ROOM <= i {
+            return Answer::Applied;
+        }
+        let a = expected_of(k, rows[i], placements);
+        if is_applied(a) {
+            i += 1;
+        } else {
+            return a;
+        }
+    }
+    Answer::Applied
+}
+
+pub fn judge_lifecycle(
+    nodes: Nodes,
+    tablets: Tablets,
+    placements: Placements,
+    k: NodeId,
+    to: u8,
+) -> Answer
+    ensures { λ r. ⌜ r ≡ judgeLifecycle (viewNodes nodes) (viewTablets tablets) (viewPlacements placements) k to ⌝ }
+{
+    let Found::At(i) = find_node(nodes, k) else {
+        return Answer::UnknownNode(k);
+    };
+    let n = node_at(nodes, i);
+    if n.lifecycle == to {
+        return Answer::AlreadyApplied;
+    }
+    if !lifecycle_can_advance(n.lifecycle, to) {
+        return Answer::InvalidNodeLifecycleTransition(k, n.lifecycle, to);
+    }
+    if (to == DECOMMISSIONED) | (to == TOMBSTONED) {
+        return still_expected(k, tablets, placements);
+    }
+    Answer::Applied
+}
+
+fn decide_lifecycle(
+    cluster_id: OptionalName,
+    nodes: Nodes,
+    tablets: Tablets,
+    placements: Placements,
+    k: NodeId,
+    to: u8,
+) -> Answer
+    ensures { λ r. ⌜ r ≡ lifecycleAnswer «cluster_id» nodes tablets placements k to ⌝ }
+{
+    let reason = lifecycle_reason(k, to);
+    if reason != 0 {
+        return Answer::InvalidCommand(reason);
+    }
+    if !cluster_id.present {
+        return Answer::NotInitialized;
+    }
+    judge_lifecycle(nodes, tablets, placements, k, to)
+}
+
+// Inner: a handler shows that the node is known, and the store's entry points that the nodes are sound.
+pub fn moved_nodes(nodes: Nodes, k: NodeId, to: u8) -> Nodes
+    requires { ⌜ (soundTable nodeKey isZeroNode nodeRoom (nodes .count) (nodes .rows) ≡ true) × (has nodeKey (k .0) (viewNodes nodes) ≡ true) ⌝ }
+    ensures { λ r. ⌜ r ≡ packNodes (movedNodes k to (viewNodes nodes)) ⌝ }
+{
+    let Found::At(i) = find_node(nodes, k) else {
+        return nodes;
+    };
+    with_node(nodes, i, with_lifecycle(node_at(nodes, i), to))
+}
+
+// Inner: the store's entry points show that the nodes are sound.
+pub fn apply_set_node_lifecycle(
+    cluster_id: OptionalName,
+    nodes: Nodes,
+    tablets: Tablets,
+    placements: Placements,
+    k: NodeId,
+    to: u8,
+) -> NodesAnswered
+    requires { ⌜ soundTable nodeKey isZeroNode nodeRoom (nodes .count) (nodes .rows) ≡ true ⌝ }
+    ensures { λ r. ⌜ (r .answer ≡ lifecycleAnswer «cluster_id» nodes tablets placements k to) × (r .nodes ≡ cond (isApplied (lifecycleAnswer «cluster_id» nodes tablets placements k to)) (packNodes (movedNodes k to (viewNodes nodes))) nodes) ⌝ }
+{
+    let answer = decide_lifecycle(cluster_id, nodes, tablets, placements, k, to);
+    if is_applied(answer) {
+        let moved = moved_nodes(nodes, k, to);
+        return NodesAnswered {
+            answer,
+            nodes: moved,
+        };
+    }
+    NodesAnswered { answer, nodes }
+}
