@@ -2,10 +2,10 @@
 use Prim.Native.Nat.{ℕ, _+_, _≤_, _<_}
 use mathlib.Core.Logic.{_≢_}
 use mathlib.Core.Path.{_≡_, refl, ap, _∙_}
-use mathlib.Core.Bool.{Bool, true, false, _&&_}
+use mathlib.Core.Bool.{Bool, true, false, not, _&&_}
 use lib.Dec.{eqb}
 use lib.ListN.{length, getD}
-use borrow.Author.Tests.{eq-eqb, ne-eqb, lt-ltb, le-ltb, le-leb, lt-leb}
+use borrow.Author.Tests.{not-true, not-false, eq-eqb, ne-eqb, lt-ltb, le-ltb, le-leb, lt-leb}
 use Rattle.laws.specs.declared.Found.{Found}
 use Rattle.laws.specs.declared.Found.the-variants.{At, Nothing}
 use Rattle.laws.specs.Keyed.{has}
@@ -68,23 +68,23 @@ module _ (nodes : Nodes) (retirements : Retirements) (old : DesiredReplicaPlacem
     replica-row : n ≡ nodeOf (r .«node_id» .0) (viewNodes nodes)
     replica-row = the-row nodeKey (r .«node_id» .0) (nodes .count) (nodes .rows) f s i n blankNode zeroNode e g
 
-    pub replica-idle : b ≡ false → A.NodeNotEligible (r .«node_id») (n .lifecycle) ≡ this
+    pub replica-idle : not b ≡ true → A.NodeNotEligible (r .«node_id») (n .lifecycle) ≡ this
     unfolding judgeReplica _⊳_ refuse
-    replica-idle h = rw (← replica-known, ← replica-row, ← q, ← q₁, h)
+    replica-idle h = rw (← replica-known, ← replica-row, ← q, ← q₁, not-true b h)
 
-    module _ (h : b ≡ true) (d : Bool) (q₂ : d ≡ classDiffers class n) where
+    module _ (h : not b ≡ false) (d : Bool) (q₂ : d ≡ classDiffers class n) where
       pub replica-class : d ≡ true → A.PlacementStorageClassMismatch (r .«node_id») ≡ this
       unfolding judgeReplica _⊳_ refuse
-      replica-class h₁ = rw (← replica-known, ← replica-row, ← q, ← q₁, h, ← q₂, h₁)
+      replica-class h₁ = rw (← replica-known, ← replica-row, ← q, ← q₁, not-false b h, ← q₂, h₁)
 
       module _ (h₁ : d ≡ false) (x : Bool) (q₃ : x ≡ isReplicaRetired (group .0) (r .«replica_id» .0) (viewRetirements retirements)) where
         pub replica-retired : x ≡ true → A.RetiredReplicaReuse group (r .«replica_id») ≡ this
         unfolding judgeReplica _⊳_ refuse
-        replica-retired h₂ = rw (← replica-known, ← replica-row, ← q, ← q₁, h, ← q₂, h₁, ← q₃, h₂)
+        replica-retired h₂ = rw (← replica-known, ← replica-row, ← q, ← q₁, not-false b h, ← q₂, h₁, ← q₃, h₂)
 
         pub replica-passes : x ≡ false → A.Applied ≡ this
         unfolding judgeReplica _⊳_ refuse
-        replica-passes h₂ = rw (← replica-known, ← replica-row, ← q, ← q₁, h, ← q₂, h₁, ← q₃, h₂)
+        replica-passes h₂ = rw (← replica-known, ← replica-row, ← q, ← q₁, not-false b h, ← q₂, h₁, ← q₃, h₂)
 
 -- ---- a preferred leader
 module _ (nodes : Nodes) (k : NodeId) (f : Found) (s : f ≡ findIndex (under nodeKey (k .0)) (viewNodes nodes)) where

@@ -3,7 +3,7 @@ use Prim.Native.Nat.{ℕ, _+_, _≤_, _<_}
 use native.Mathlib.Numerals.{add-one}
 use native.Mathlib.Omega.{arith}
 use mathlib.Core.Path.{_≡_, refl, sym, ap, ap₂, _∙_}
-use mathlib.Core.Bool.{Bool, true, false, cond, _&&_, _||_}
+use mathlib.Core.Bool.{Bool, true, false, not, cond, _&&_, _||_}
 use mathlib.Core.List.{List, [], _∷_, _++_, map}
 use lib.Dec.{eqb}
 use lib.ListN.{length, getD, take, set, length-set}
@@ -133,17 +133,17 @@ module _ (nodes : Nodes) (p : DesiredReplicaPlacement) (on : List NodeDescriptor
 
   module _ (x : ℕ) (e : x ≡ distinct (map (labelIn 0) (take (p .«replica_count») on)))
       (a : Answer) (q : a ≡ judgeDomain 0 (p .«placement_policy» .«min_distinct_regions») x) (b : Bool) (t : b ≡ isApplied a) where
-    pub regions-refused : b ≡ false → a ≡ judgeDomains (viewNodes nodes) p
+    pub regions-refused : not b ≡ true → a ≡ judgeDomains (viewNodes nodes) p
     unfolding judgeDomains
     regions-refused f = at-first _ _ _ a (judged 0 _ x a e q) b t f
 
-    module _ (f : b ≡ true) (y : ℕ) (e₁ : y ≡ distinct (map (labelIn 1) (take (p .«replica_count») on)))
+    module _ (f : not b ≡ false) (y : ℕ) (e₁ : y ≡ distinct (map (labelIn 1) (take (p .«replica_count») on)))
         (a₁ : Answer) (q₁ : a₁ ≡ judgeDomain 1 (p .«placement_policy» .«min_distinct_zones») y) (b₁ : Bool) (t₁ : b₁ ≡ isApplied a₁) where
-      pub zones-refused : b₁ ≡ false → a₁ ≡ judgeDomains (viewNodes nodes) p
+      pub zones-refused : not b₁ ≡ true → a₁ ≡ judgeDomains (viewNodes nodes) p
       unfolding judgeDomains
       zones-refused f₁ = at-second _ _ _ a (judged 0 _ x a e q) b t f a₁ (judged 1 _ y a₁ e₁ q₁) b₁ t₁ f₁
 
-      pub racks-judged : b₁ ≡ true → (z : ℕ) → z ≡ distinct (map (labelIn 2) (take (p .«replica_count») on)) →
+      pub racks-judged : not b₁ ≡ false → (z : ℕ) → z ≡ distinct (map (labelIn 2) (take (p .«replica_count») on)) →
           (a₂ : Answer) → a₂ ≡ judgeDomain 2 (p .«placement_policy» .«min_distinct_racks») z → a₂ ≡ judgeDomains (viewNodes nodes) p
       unfolding judgeDomains
       racks-judged f₁ z e₂ a₂ q₂ = at-third _ _ _ a (judged 0 _ x a e q) b t f a₁ (judged 1 _ y a₁ e₁ q₁) b₁ t₁ f₁ a₂ (judged 2 _ z a₂ e₂ q₂)

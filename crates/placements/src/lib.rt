@@ -120,7 +120,7 @@ pub fn judge_replica(
     };
     let n = node_at(nodes, i);
     let lifecycle = n.lifecycle;
-    if eligible(lifecycle, stands_already(r, replicas, old.replica_count)) {} else {
+    if !eligible(lifecycle, stands_already(r, replicas, old.replica_count)) {
         return Answer::NodeNotEligible(node, lifecycle);
     }
     if class_differs(class, n) {
@@ -281,7 +281,7 @@ pub fn judge_domains(nodes: Nodes, p: DesiredReplicaPlacement) -> Answer
         p.placement_policy.min_distinct_regions,
         observed(0, on, count),
     );
-    if is_applied(regions) {} else {
+    if !is_applied(regions) {
         return regions;
     }
     let zones = judge_domain(
@@ -289,7 +289,7 @@ pub fn judge_domains(nodes: Nodes, p: DesiredReplicaPlacement) -> Answer
         p.placement_policy.min_distinct_zones,
         observed(1, on, count),
     );
-    if is_applied(zones) {} else {
+    if !is_applied(zones) {
         return zones;
     }
     judge_domain(
@@ -480,11 +480,11 @@ fn judge_standing(
     ensures { λ a. ⌜ a ≡ judgeStanding (viewNodes nodes) (viewRetirements retirements) (desired old) group p ⌝ }
 {
     let replicas = judge_replicas(nodes, retirements, old, group, p);
-    if is_applied(replicas) {} else {
+    if !is_applied(replicas) {
         return replicas;
     }
     let leaders = judge_leaders(nodes, p.placement_policy);
-    if is_applied(leaders) {} else {
+    if !is_applied(leaders) {
         return leaders;
     }
     judge_domains(nodes, p)
@@ -499,11 +499,11 @@ fn judge_change(
     ensures { λ a. ⌜ a ≡ judgeChange (viewPlacements placements) (desired old) p ⌝ }
 {
     let epoch = judge_epoch(placements, p);
-    if is_applied(epoch) {} else {
+    if !is_applied(epoch) {
         return epoch;
     }
     let kept = judge_kept_replicas(old, p);
-    if is_applied(kept) {} else {
+    if !is_applied(kept) {
         return kept;
     }
     judge_room(placements, p.tablet_id)

@@ -97,14 +97,17 @@ groupOf l = numberAt 8 l 1
 abbrev pub bodyAt : List ℕ → ℕ
 bodyAt l = 9 + 12 * byteAt l 0
 
+abbrev pub cutOpening : Answered
+cutOpening = record { answer = A.BadTape 2 0; store = refusedStore }
+
 -- "one cut short prints `0 40 2 0 0`; more than 16 tables is refused after nine bytes"
 unfoldable pub openTape : List ℕ → Answered
 openTape l =
     cond (ltb (length l) 9)
-    (record { answer = A.BadTape 2 0; store = refusedStore })
+    cutOpening
     (cond (ltb tableRoom (byteAt l 0))
     (record { answer = A.InvalidCommand 10; store = refusedStore })
-    (cond (ltb (length l) (bodyAt l)) (record { answer = A.BadTape 2 0; store = refusedStore }) (opening (tablesOf l) (groupOf l))))
+    (cond (ltb (length l) (bodyAt l)) cutOpening (opening (tablesOf l) (groupOf l))))
 
 -- ---- a whole tape
 

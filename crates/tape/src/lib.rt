@@ -1,11 +1,18 @@
 // The command tape: decoding, one step, the run over a whole tape.
 ghost use mathlib.Core.Path.{_≡_};
-ghost use Prim.Native.Nat.{_+_, _≤_, _<_};
+ghost use mathlib.Core.Bool.{true};
+ghost use Prim.Native.Nat.{_+_, _*_, _≤_, _<_};
 ghost use lib.ListN.{length, set};
 ghost use Rattle.metadata.specs.Answers.{reported};
-ghost use Rattle.tape.specs.Tape.{isCommand, sizeOf, nextAt, readFrom, lines, written};
+ghost use Rattle.tape.specs.Tape.{isCommand, sizeOf, nextAt, readFrom, lines, written, commandAt, Done, openTape, cutOpening, bodyAt, ran, ranOut};
+ghost use Rattle.metadata.specs.Model.{step};
+ghost use Rattle.metadata.specs.Sound.{sound};
 use metadata::Answer;
+use metadata::Answered;
+use metadata::NodeId;
 use metadata::Store;
+use metadata::TABLE_ROOM;
+use metadata::is_applied;
 use metadata::report;
 
 // What stands at a place of a tape: nothing more, an unknown byte, a command that is cut short, or a whole command with its byte and the place of the next.
@@ -114,7 +121,7 @@ fn put(out: &mut [u64], at: usize, n: u64)
 // An answer's four numbers from a place on.
 pub fn write_answer(out: &mut [u64], at: usize, answer: Answer)
     requires { ⌜ at + 4 ≤ length (now out) ⌝ }
-    ensures { λ r. ⌜ now (out .exit) ≡ written (now (out .entry)) at (reported answer) ⌝ }
+    ensures { λ r. ⌜ (now (out .exit) ≡ written (now (out .entry)) at (reported answer)) × (length (now (out .exit)) ≡ length (now (out .entry))) ⌝ }
 {
     let r = report(answer);
     let operands = r.operands;
@@ -122,4 +129,159 @@ pub fn write_answer(out: &mut [u64], at: usize, answer: Answer)
     put(out, at + 1, operands[0]);
     put(out, at + 2, operands[1]);
     put(out, at + 3, operands[2]);
+}
+
+// Inner: who runs a tape shows that the store is sound and that the command's bytes are there.
+pub fn command_step(s: Store, b: u8, tape: &[u8], at: usize) -> Answered
+    requires { ⌜ (sound s ≡ true) × ((isCommand b ≡ true) × (at + sizeOf b ≤ length (now tape))) ⌝ }
+    ensures { λ r. ⌜ r ≡ step s (commandAt b (now (tape .entry)) at) ⌝ }
+{
+    if b == 1 {
+        return store::cluster_initialized_step(s, decode::name_at(tape, at));
+    }
+    if b == 2 {
+        return store::register_node_step(s, decode::node_at(tape, at));
+    }
+    if b == 3 {
+        return store::set_node_lifecycle_step(s, NodeId(decode::number8(tape, at)), tape[at + 8]);
+    }
+    if b == 4 {
+        return store::create_tablet_step(s, decode::tablet_at(tape, at));
+    }
+    if b == 5 {
+        return store::desired_placement_step(s, decode::placement_at(tape, at));
+    }
+    if b == 6 {
+        return store::replica_retirement_step(s, decode::retirement_at(tape, at));
+    }
+    store::initial_placement_step(s)
+}
+
+fn behind(place: usize, room: usize) -> usize
+    requires { ⌜ place + 4 ≤ room ⌝ }
+    ensures { λ r. ⌜ r ≡ place + 4 ⌝ }
+{
+    place + 4
+}
+
+// Inner: `run` shows that the store is sound and that there is room for every answer.
+pub fn run_commands(s: Store, tape: &[u8], at: usize, out: &mut [u64]) -> Store
+    requires { ⌜ (sound s ≡ true) × (4 * lines (readFrom (now tape) at) ≤ length (now out)) ⌝ }
+    ensures { λ r. ⌜ Done (now (tape .entry)) s at (now (out .entry)) r (now (out .exit)) ⌝ }
+{
+    let mut store = s;
+    let mut i = at;
+    let mut place: usize = 0;
+    while i < tape.len() {
+        match next_at(tape, i) {
+            Next::Whole(b, m) => {
+                let next = behind(place, out.len());
+                let done = command_step(store, b, tape, i + 1);
+                let answer = done.answer;
+                write_answer(out, place, answer);
+                store = done.store;
+                i = m;
+                place = next;
+            }
+            Next::Unknown(b) => {
+                write_answer(out, place, Answer::BadTape(1, b));
+                return store;
+            }
+            Next::Cut(b) => {
+                write_answer(out, place, Answer::BadTape(2, b));
+                return store;
+            }
+            Next::End => {
+                return store;
+            }
+        }
+    }
+    store
+}
+
+fn count_of(b: u8) -> usize
+    ensures { λ r. ⌜ (r ≡ b) × (r < 256) ⌝ }
+{
+    b as usize
+}
+
+fn cut_opening() -> Answered
+    ensures { λ r. ⌜ r ≡ cutOpening ⌝ }
+{
+    let store = opening::refused_opening().store;
+    Answered {
+        answer: Answer::BadTape(2, 0),
+        store,
+    }
+}
+
+// The opening at the start of a tape.
+pub fn open_tape(tape: &[u8]) -> Answered
+    ensures { λ r. ⌜ r ≡ openTape (now (tape .entry)) ⌝ }
+{
+    if tape.len() < 9 {
+        return cut_opening();
+    }
+    let count = count_of(tape[0]);
+    if TABLE_ROOM < count {
+        return opening::refused_opening();
+    }
+    if tape.len() < 9 + 12 * count {
+        return cut_opening();
+    }
+    let rows = decode::tables_at(tape, 9, count);
+    opening::open(count, rows, decode::number8(tape, 1))
+}
+
+// Where the commands begin.
+pub fn body_at(tape: &[u8]) -> usize
+    ensures { λ r. ⌜ r ≡ bodyAt (now (tape .entry)) ⌝ }
+{
+    if tape.len() == 0 {
+        return 9;
+    }
+    9 + 12 * count_of(tape[0])
+}
+
+// A whole tape in memory: four numbers for each answer go to the lent list. Too short a list: nothing is run, and nothing is written.
+pub fn run(tape: &[u8], out: &mut [u64]) -> Ran
+    ensures { λ r. ⌜ (r ≡ ran (now (tape .entry)) (length (now (out .entry)))) × (now (out .exit) ≡ ranOut (now (tape .entry)) (now (out .entry))) ⌝ }
+{
+    let first = open_tape(tape);
+    let answer = first.answer;
+    let store = first.store;
+    if is_applied(answer) {
+        let at = body_at(tape);
+        let lines = count_lines(tape, at);
+        if out.len() / 4 < lines {
+            return Ran {
+                opened: true,
+                short: true,
+                lines,
+                store,
+            };
+        }
+        let last = run_commands(store, tape, at, out);
+        return Ran {
+            opened: true,
+            short: false,
+            lines,
+            store: last,
+        };
+    }
+    if out.len() < 4 {
+        return Ran {
+            opened: false,
+            short: true,
+            lines: 1,
+            store,
+        };
+    }
+    write_answer(out, 0, answer);
+    Ran {
+        opened: false,
+        short: false,
+        lines: 1,
+        store,
+    }
 }

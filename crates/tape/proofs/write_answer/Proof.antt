@@ -1,3 +1,4 @@
+use mathlib.Core.Path.{_∙_}
 use borrow.Author.Needs.{needs}
 use Rattle.tape.proofs.Running.{four-stores}
 use Rattle.tape.proofs.write_answer.Statement.{statement}
@@ -62,8 +63,10 @@ same-length c = search needs
 
 -- src/lib.rt:106:1
 returns : tie.Need-returns
-returns c =
-    four-stores (c .before .before .before .before .before .before .before .before .before .before .before .before .before .before .before .before .before .before .before .before .args .answer) _ _ _ _ _ _ _ _ (c .before .before .before .before .before .before .before .before .before .before .before .before .before .before .before .before .before .before .before .before .pre) (c .before .before .before .before .before .before .before .before .before .before .before .before .before .before .before .before .before .before .report .ensures) (c .before .before .before .before .before .before .before .before .before .before .before .before .before .before .before .wide .ensures) (c .before .before .before .before .before .before .before .before .before .before .before .before .before .before .put .ensures .0) (c .before .before .before .before .before .before .before .before .before .before .put2 .ensures .0) (c .before .before .before .before .before .before .put3 .ensures .0) (c .before .before .put4 .ensures .0)
+returns c = (
+  four-stores (c .before .before .before .before .before .before .before .before .before .before .before .before .before .before .before .before .before .before .before .before .args .answer) _ _ _ _ _ _ _ _ (c .before .before .before .before .before .before .before .before .before .before .before .before .before .before .before .before .before .before .before .before .pre) (c .before .before .before .before .before .before .before .before .before .before .before .before .before .before .before .before .before .before .report .ensures) (c .before .before .before .before .before .before .before .before .before .before .before .before .before .before .before .wide .ensures) (c .before .before .before .before .before .before .before .before .before .before .before .before .before .before .put .ensures .0) (c .before .before .before .before .before .before .before .before .before .before .put2 .ensures .0) (c .before .before .before .before .before .before .put3 .ensures .0) (c .before .before .put4 .ensures .0),
+  c .before .before .put4 .ensures .1 ∙ c .before .before .before .before .before .before .put3 .ensures .1 ∙ c .before .before .before .before .before .before .before .before .before .before .put2 .ensures .1 ∙ c .before .before .before .before .before .before .before .before .before .before .before .before .before .before .put .ensures .1,
+)
 
 pub write-answer-spec : {M : Type 1} → statement M
 write-answer-spec =

@@ -1,0 +1,326 @@
+-- The ways out of one step, of the run's loop, of the opening and of the whole run, as the code meets them. Assumes nothing.
+use Prim.Native.Nat.{ℕ, zero, suc, _+_, _*_, _/_, _-_, _≤_, _<_}
+use native.Mathlib.Omega.{arith}
+use native.Mathlib.Nat.{div-add-mod', mod-lt}
+use mathlib.Core.Path.{_≡_, refl, sym, ap, ap₂, _∙_, subst}
+use mathlib.Core.Bool.{Bool, true, false, cond, _&&_}
+use mathlib.Core.List.{List, [], _∷_, _++_, append-nil}
+use lib.Dec.{leb, ltb, eqb}
+use lib.ListN.{length, take, drop, getD}
+use borrow.Author.Needs.{needs}
+use borrow.Author.Tests.{leb-true, le-leb, lt-leb, lt-ltb, le-ltb}
+use Rattle.laws.proofs.ListLaws.{and-both}
+use Rattle.decode.specs.Decode.{byteAt, numberAt, nameAt, nodeAt, tabletAt, placementAt, retirementAt, tableAt, listAt}
+use Rattle.metadata.specs.Rooms.{tableRoom}
+use Rattle.metadata.specs.Answers.{reported, isApplied}
+use Rattle.metadata.specs.Commands.{naming, registering, lifecycle, tablet, placement, retirement, picking}
+use Rattle.metadata.specs.Model.{step}
+use Rattle.metadata.specs.Sound.{sound, run}
+use Rattle.metadata.specs.Opening.{opening}
+use Rattle.metadata.specs.declared.Answer.{Answer}
+use Rattle.metadata.specs.declared.Answer.the-variants as A
+use Rattle.metadata.specs.declared.Answered.{Answered}
+use Rattle.metadata.specs.declared.Name.{Name}
+use Rattle.metadata.specs.declared.NodeDescriptor.{NodeDescriptor}
+use Rattle.metadata.specs.declared.TabletDescriptor.{TabletDescriptor}
+use Rattle.metadata.specs.declared.DesiredReplicaPlacement.{DesiredReplicaPlacement}
+use Rattle.metadata.specs.declared.RetiredReplicaLifetime.{RetiredReplicaLifetime}
+use Rattle.metadata.specs.declared.TableRow.{TableRow}
+use Rattle.metadata.specs.declared.Store.{Store}
+use Rattle.opening.specs.Opened.{refusedOpening, openingOf}
+use Rattle.tape.specs.declared.Next.{Next}
+use Rattle.tape.specs.declared.Next.the-variants as N
+use Rattle.tape.specs.declared.Ran.{Ran}
+use Rattle.tape.specs.Tape.{
+  isCommand,
+  sizeOf,
+  commandAt,
+  stopped,
+  nextAt,
+  readFrom,
+  lines,
+  tapeAnswers,
+  written,
+  Done,
+  tablesOf,
+  groupOf,
+  openTape,
+  cutOpening,
+  bodyAt,
+  outcome,
+  finalStore,
+  numbersOf,
+  numbers,
+  ran,
+  ranOut,
+}
+use Rattle.tape.proofs.History.{accepted}
+use Rattle.metadata.proofs.Theorem.{history}
+use Rattle.tape.proofs.Reading.{whole, next-end, read-unknown, read-cut}
+use Rattle.tape.proofs.Running.{Runs, lines-length, runs-start, runs-next, next-room, runs-stop, stop-room, runs-end}
+
+-- ---- one step: the operands are there
+
+module _ (b : ℕ) (l : List ℕ) (at : ℕ) (h : at + sizeOf b ≤ length l) where
+  room : (n size : ℕ) → b ≡ n → sizeOf n ≡ size → at + size ≤ length l
+  room n size e q = subst (λ (k : ℕ). at + k ≤ length l) (ap sizeOf e ∙ q) h
+
+  pub room-1 : b ≡ 1 → at + 49 ≤ length l
+  unfolding sizeOf
+  room-1 e = room 1 49 e refl
+
+  pub room-2 : b ≡ 2 → at + 305 ≤ length l
+  unfolding sizeOf
+  room-2 e = room 2 305 e refl
+
+  pub room-3 : b ≡ 3 → at + 9 ≤ length l
+  unfolding sizeOf
+  room-3 e = room 3 9 e refl
+
+  pub room-3-id : b ≡ 3 → at + 8 ≤ length l
+  room-3-id e = omega (arith, room-3 e)
+
+  pub room-3-last : b ≡ 3 → at + 8 < length l
+  room-3-last e = omega (arith, room-3 e)
+
+  pub room-4 : b ≡ 4 → at + 107 ≤ length l
+  unfolding sizeOf
+  room-4 e = room 4 107 e refl
+
+  pub room-5 : b ≡ 5 → at + 234 ≤ length l
+  unfolding sizeOf
+  room-5 e = room 5 234 e refl
+
+  pub room-6 : b ≡ 6 → at + 48 ≤ length l
+  unfolding sizeOf
+  room-6 e = room 6 48 e refl
+
+-- ---- one step: each command
+
+module _ (s : Store) (b : ℕ) (l : List ℕ) (at : ℕ) (r : Answered) where
+  pub is-naming : (t : Name) → b ≡ 1 → t ≡ nameAt l at → r ≡ step s (naming t) → r ≡ step s (commandAt b l at)
+  unfolding commandAt
+  is-naming t e q p = rw e (p ∙ ap (λ (x : Name). step s (naming x)) q)
+
+  pub is-registering : (n : NodeDescriptor) → b ≡ 2 → n ≡ nodeAt l at → r ≡ step s (registering n) → r ≡ step s (commandAt b l at)
+  unfolding commandAt
+  is-registering n e q p = rw e (p ∙ ap (λ (x : NodeDescriptor). step s (registering x)) q)
+
+  pub is-lifecycle : (k to : ℕ) → b ≡ 3 → k ≡ numberAt 8 l at → to ≡ byteAt l (at + 8) → r ≡ step s (lifecycle (record { 0 = k }) to) → r ≡ step s (commandAt b l at)
+  unfolding commandAt
+  is-lifecycle k to e q w p = rw e (p ∙ rw (q, w))
+
+  pub is-tablet : (t : TabletDescriptor) → b ≡ 4 → t ≡ tabletAt l at → r ≡ step s (tablet t) → r ≡ step s (commandAt b l at)
+  unfolding commandAt
+  is-tablet t e q p = rw e (p ∙ ap (λ (x : TabletDescriptor). step s (tablet x)) q)
+
+  pub is-placement : (x : DesiredReplicaPlacement) → b ≡ 5 → x ≡ placementAt l at → r ≡ step s (placement x) → r ≡ step s (commandAt b l at)
+  unfolding commandAt
+  is-placement x e q p = rw e (p ∙ ap (λ (y : DesiredReplicaPlacement). step s (placement y)) q)
+
+  pub is-retirement : (x : RetiredReplicaLifetime) → b ≡ 6 → x ≡ retirementAt l at → r ≡ step s (retirement x) → r ≡ step s (commandAt b l at)
+  unfolding commandAt
+  is-retirement x e q p = rw e (p ∙ ap (λ (y : RetiredReplicaLifetime). step s (retirement y)) q)
+
+  pub is-picking : isCommand b ≡ true → (b ≡ 1 → ⊥) → (b ≡ 2 → ⊥) → (b ≡ 3 → ⊥) → (b ≡ 4 → ⊥) → (b ≡ 5 → ⊥) → (b ≡ 6 → ⊥) → r ≡ step s picking → r ≡ step s (commandAt b l at)
+  unfolding commandAt
+  is-picking k n1 n2 n3 n4 n5 n6 p =
+      let g = and-both (leb 1 b) (leb b 7) k in
+      let e : b ≡ 7 = seven b (leb-true 1 b (g .0)) (leb-true b 7 (g .1)) n1 n2 n3 n4 n5 n6 in
+      rw e p
+    where
+      seven : (n : ℕ) → 1 ≤ n → n ≤ 7 → (n ≡ 1 → ⊥) → (n ≡ 2 → ⊥) → (n ≡ 3 → ⊥) → (n ≡ 4 → ⊥) → (n ≡ 5 → ⊥) → (n ≡ 6 → ⊥) → n ≡ 7
+      seven n a z f1 f2 f3 f4 f5 f6 = omega arith
+
+-- ---- the loop: the answers so far end at the place
+
+pub record Stands (l : List ℕ) (s₀ : Store) (at₀ : ℕ) (out₀ : List ℕ) (s : Store) (at place : ℕ) (out : List ℕ) : Type 0 where
+  pub line : ℕ
+  pub there : place ≡ 4 * line
+  pub long : length out ≡ length out₀
+  pub runs : Runs l s₀ at₀ out₀ s at line out
+
+pub loop-start : (l : List ℕ) (s₀ : Store) (at₀ : ℕ) (out₀ : List ℕ) → sound s₀ ≡ true → 4 * lines (readFrom l at₀) ≤ length out₀ → Stands l s₀ at₀ out₀ s₀ at₀ 0 out₀
+loop-start l s₀ at₀ out₀ e h = record { line = 0; there = refl; long = refl; runs = runs-start l s₀ at₀ out₀ e h }
+
+-- x is what stands at the place
+module _ (l : List ℕ) (s₀ : Store) (at₀ : ℕ) (out₀ : List ℕ) (s : Store) (at place : ℕ) (out : List ℕ) (x : Next) where
+  pub loop-known : (b m : ℕ) → x ≡ nextAt l at → x ≡ N.Whole b m → isCommand b ≡ true
+  loop-known b m q e = whole l at b m (sym q ∙ e) .known
+
+  pub loop-fits : (b m : ℕ) → x ≡ nextAt l at → x ≡ N.Whole b m → (at + 1) + sizeOf b ≤ length l
+  loop-fits b m q e = let w = whole l at b m (sym q ∙ e) in omega (arith, w .next, w .fits)
+
+  pub loop-less : (b m : ℕ) → x ≡ nextAt l at → x ≡ N.Whole b m → length l - m < length l - at
+  loop-less b m q e = let w = whole l at b m (sym q ∙ e) in omega (arith, w .next, w .inside, w .fits)
+
+  module _ (k : Stands l s₀ at₀ out₀ s at place out) where
+    pub loop-sound : sound s ≡ true
+    loop-sound = k .runs .sounds
+
+    pub loop-room : (b m : ℕ) → x ≡ nextAt l at → x ≡ N.Whole b m → place + 4 ≤ length out
+    loop-room b m q e = omega (arith, k .there, next-room l s₀ at₀ out₀ s at (k .line) out (k .runs) b m (sym q ∙ e))
+
+    pub loop-next : (b m : ℕ) (done : Answered) (next : ℕ) (new : List ℕ) → x ≡ nextAt l at → x ≡ N.Whole b m → next ≡ place + 4 → done ≡ step s (commandAt b l (at + 1)) →
+        new ≡ written out place (reported (done .answer)) → length new ≡ length out → Stands l s₀ at₀ out₀ (done .store) m next new
+    loop-next b m done next new q e f d w z =
+        record {
+          line = k .line + 1;
+          there = omega (arith, f, k .there);
+          long = z ∙ k .long;
+          runs =
+              subst (λ (n : List ℕ). Runs l s₀ at₀ out₀ (done .store) m (k .line + 1) n) (sym (w ∙ ap (λ (i : ℕ). written out i (reported (done .answer))) (k .there)))
+              (subst (λ (y : Answered). Runs l s₀ at₀ out₀ (y .store) m (k .line + 1) (written out (4 * k .line) (reported (y .answer)))) (sym d)
+              (runs-next l s₀ at₀ out₀ s at (k .line) out (k .runs) b m (sym q ∙ e)));
+        }
+
+    stops : (a : Answer) (new : List ℕ) → readFrom l at ≡ stopped a → new ≡ written out place (reported a) → Done l s₀ at₀ out₀ s new
+    stops a new e w =
+        subst (λ (n : List ℕ). Done l s₀ at₀ out₀ s n) (sym (w ∙ ap (λ (i : ℕ). written out i (reported a)) (k .there))) (runs-stop l s₀ at₀ out₀ s at (k .line) out (k .runs) a e)
+
+    pub unknown-room : (b : ℕ) → x ≡ nextAt l at → x ≡ N.Unknown b → place + 4 ≤ length out
+    unknown-room b q e = omega (arith, k .there, stop-room l s₀ at₀ out₀ s at (k .line) out (k .runs) (A.BadTape 1 b) (read-unknown l at b (sym q ∙ e)))
+
+    pub cut-room : (b : ℕ) → x ≡ nextAt l at → x ≡ N.Cut b → place + 4 ≤ length out
+    cut-room b q e = omega (arith, k .there, stop-room l s₀ at₀ out₀ s at (k .line) out (k .runs) (A.BadTape 2 b) (read-cut l at b (sym q ∙ e)))
+
+    pub unknown-done : (b : ℕ) (new : List ℕ) → x ≡ nextAt l at → x ≡ N.Unknown b → new ≡ written out place (reported (A.BadTape 1 b)) → Done l s₀ at₀ out₀ s new
+    unknown-done b new q e w = stops (A.BadTape 1 b) new (read-unknown l at b (sym q ∙ e)) w
+
+    pub cut-done : (b : ℕ) (new : List ℕ) → x ≡ nextAt l at → x ≡ N.Cut b → new ≡ written out place (reported (A.BadTape 2 b)) → Done l s₀ at₀ out₀ s new
+    cut-done b new q e w = stops (A.BadTape 2 b) new (read-cut l at b (sym q ∙ e)) w
+
+    pub end-done : x ≡ nextAt l at → x ≡ N.End → Done l s₀ at₀ out₀ s out
+    end-done q e = runs-end l s₀ at₀ out₀ s at (k .line) out (k .runs) (sym q ∙ e)
+
+    pub same-after : (new : List ℕ) → length new ≡ length out → length new ≡ length out₀
+    same-after new z = z ∙ k .long
+
+pub over-done : (l : List ℕ) (s₀ : Store) (at₀ : ℕ) (out₀ : List ℕ) (s : Store) (at place : ℕ) (out : List ℕ) → Stands l s₀ at₀ out₀ s at place out → length l ≤ at →
+    Done l s₀ at₀ out₀ s out
+over-done l s₀ at₀ out₀ s at place out k h = runs-end l s₀ at₀ out₀ s at (k .line) out (k .runs) (sym (next-end l at h))
+
+pub same-now : (l : List ℕ) (s₀ : Store) (at₀ : ℕ) (out₀ : List ℕ) (s : Store) (at place : ℕ) (out : List ℕ) → Stands l s₀ at₀ out₀ s at place out → length out ≡ length out₀
+same-now l s₀ at₀ out₀ s at place out k = k .long
+
+-- for `search running` at each need of the loop
+pub ruleset running =
+    (loop-start, loop-known, loop-fits, loop-less, loop-sound, loop-room, loop-next, unknown-room, cut-room, unknown-done, cut-done, end-done, over-done, same-after, same-now, needs)
+
+-- ---- the opening
+
+pub empty-body : (l : List ℕ) → length l ≡ 0 → 9 ≡ bodyAt l
+empty-body [] e = refl
+empty-body (x ∷ l) e = absurd (omega arith)
+
+pub some-body : (l : List ℕ) (n : ℕ) → n ≡ byteAt l 0 → 9 + 12 * n ≡ bodyAt l
+some-body l n e = rw e
+
+pub opening-cut : (l : List ℕ) (r : Answered) → length l < 9 → r ≡ cutOpening → r ≡ openTape l
+unfolding openTape
+opening-cut l r h e = rw (lt-ltb (length l) 9 h) e
+
+pub opening-over : (l : List ℕ) (n : ℕ) (r : Answered) → 9 ≤ length l → n ≡ byteAt l 0 → tableRoom < n → r ≡ refusedOpening → r ≡ openTape l
+unfolding openTape
+opening-over l n r h q g e = rw (le-ltb (length l) 9 h, ← q, lt-ltb tableRoom n g) e
+
+pub opening-short : (l : List ℕ) (n : ℕ) (r : Answered) → 9 ≤ length l → n ≡ byteAt l 0 → n ≤ tableRoom → length l < 9 + 12 * n → r ≡ cutOpening → r ≡ openTape l
+unfolding openTape
+opening-short l n r h q g f e = rw (le-ltb (length l) 9 h, ← q, le-ltb tableRoom n g, lt-ltb (length l) (9 + 12 * n) f) e
+
+pub opening-read : (l : List ℕ) (n g : ℕ) (rows : List TableRow) (r : Answered) → 9 ≤ length l → n ≡ byteAt l 0 → n ≤ tableRoom → 9 + 12 * n ≤ length l →
+    take n rows ≡ listAt tableAt 12 n l 9 → g ≡ numberAt 8 l 1 → r ≡ openingOf n rows g → r ≡ openTape l
+unfolding openTape
+opening-read l n g rows r h q k f t w e =
+    e ∙ rw (le-leb n tableRoom k, t, w, q)
+    (sym (rw (le-ltb (length l) 9 h, ← q, le-ltb tableRoom n k, le-ltb (length l) (9 + 12 * n) f)))
+
+pub cut-is : (r : Answered) (s : Store) → r ≡ refusedOpening → s ≡ r .store → _≡_ {A = Answered} (record { answer = A.BadTape 2 0; store = s }) cutOpening
+cut-is r s e q = λ i. record { answer = A.BadTape 2 0; store = (q ∙ ap (λ (x : Answered). x .store) e) i }
+
+-- ---- the whole run; o is what the opening gave, b whether it was accepted, n the number of lines
+
+quarter-over : (len n : ℕ) → len / 4 < n → len < 4 * n
+quarter-over len n h = omega (arith, div-add-mod' len 4, mod-lt len {m = 4} (omega arith))
+
+quarter-fits : (len n : ℕ) → n ≤ len / 4 → 4 * n ≤ len
+quarter-fits len n h = omega (arith, div-add-mod' len 4)
+
+module _ (l : List ℕ) (o : Answered) (b : Bool) (q : o ≡ openTape l) (p : b ≡ isApplied (o .answer)) where
+  applied : b ≡ true → isApplied (openTape l .answer) ≡ true
+  applied e = sym (ap (λ (x : Answered). isApplied (x .answer)) q) ∙ sym p ∙ e
+
+  refused : b ≡ false → isApplied (openTape l .answer) ≡ false
+  refused e = sym (ap (λ (x : Answered). isApplied (x .answer)) q) ∙ sym p ∙ e
+
+  -- the opening's store is sound
+  pub opened-is-sound : b ≡ true → sound (o .store) ≡ true
+  opened-is-sound e = subst (λ (x : Answered). sound (x .store) ≡ true) (accepted l (applied e) ∙ sym q)
+      (history (tablesOf l) (groupOf l) [] (subst (λ (x : Answered). isApplied (x .answer) ≡ true) (sym (accepted l (applied e))) (applied e)) .sound)
+
+  module _ (at n : ℕ) (out : List ℕ) (a : at ≡ bodyAt l) (m : n ≡ lines (readFrom l at)) where
+    pub answers-fit : n ≤ length out / 4 → 4 * lines (readFrom l at) ≤ length out
+    answers-fit h = omega (arith, quarter-fits (length out) n h)
+
+    line-count : b ≡ true → length (outcome l) ≡ n
+    unfolding outcome
+    line-count e = rw (applied e) (lines-length (openTape l .store) (readFrom l (bodyAt l)) ∙ sym (m ∙ ap (λ (k : ℕ). lines (readFrom l k)) a))
+
+    pub short-run : b ≡ true → length out / 4 < n → _≡_ {A = Ran} (record { opened = true; short = true; lines = n; store = o .store }) (ran l (length out))
+    unfolding ran
+    short-run e h =
+        let f : length out < 4 * length (outcome l) = omega (arith, line-count e, quarter-over (length out) n h) in
+        rw (lt-leb (4 * length (outcome l)) (length out) f, applied e, line-count e, q)
+
+    pub short-out : b ≡ true → length out / 4 < n → out ≡ ranOut l out
+    unfolding ranOut
+    short-out e h =
+        let f : length out < 4 * length (outcome l) = omega (arith, line-count e, quarter-over (length out) n h) in
+        rw (lt-leb (4 * length (outcome l)) (length out) f)
+
+    module _ (s : Store) (new : List ℕ) (d : Done l (o .store) at out s new) where
+      pub whole-run : b ≡ true → n ≤ length out / 4 → _≡_ {A = Ran} (record { opened = true; short = false; lines = n; store = s }) (ran l (length out))
+      unfolding ran finalStore
+      whole-run e h =
+          let f : 4 * length (outcome l) ≤ length out = omega (arith, line-count e, quarter-fits (length out) n h) in
+          let w : s ≡ run (openTape l .store) (readFrom l (bodyAt l) .commands) =
+          d .store ∙ ap₂ (λ (x : Answered) (k : ℕ). run (x .store) (readFrom l k .commands)) q a in
+          rw (le-leb (4 * length (outcome l)) (length out) f, applied e, line-count e) (ap (λ (x : Store). record { opened = true; short = false; lines = n; store = x }) w)
+
+      pub whole-out : b ≡ true → n ≤ length out / 4 → new ≡ ranOut l out
+      unfolding ranOut outcome
+      whole-out e h =
+          let f : 4 * length (outcome l) ≤ length out = omega (arith, line-count e, quarter-fits (length out) n h) in
+          let w : new ≡ numbers (tapeAnswers (openTape l .store) (readFrom l (bodyAt l))) ++ drop (4 * length (tapeAnswers (openTape l .store) (readFrom l (bodyAt l)))) out =
+          d .answered
+          ∙ ap₂ (λ (x : Answered) (k : ℕ). numbers (tapeAnswers (x .store) (readFrom l k)) ++ drop (4 * length (tapeAnswers (x .store) (readFrom l k))) out) q a in
+          rw (le-leb (4 * length (outcome l)) (length out) f) (w ∙ sym (rw (applied e)))
+
+  module _ (out : List ℕ) where
+    one-line : b ≡ false → outcome l ≡ o .answer ∷ []
+    unfolding outcome
+    one-line e = rw (refused e, q)
+
+    pub short-refusal : b ≡ false → length out < 4 → _≡_ {A = Ran} (record { opened = false; short = true; lines = 1; store = o .store }) (ran l (length out))
+    unfolding ran
+    short-refusal e h =
+        let f : length out < 4 * length (outcome l) = omega (arith, ap length (one-line e)) in
+        rw (lt-leb (4 * length (outcome l)) (length out) f, refused e, one-line e, q)
+
+    pub short-refusal-out : b ≡ false → length out < 4 → out ≡ ranOut l out
+    unfolding ranOut
+    short-refusal-out e h =
+        let f : length out < 4 * length (outcome l) = omega (arith, ap length (one-line e)) in
+        rw (lt-leb (4 * length (outcome l)) (length out) f)
+
+    pub refusal-run : b ≡ false → 4 ≤ length out → _≡_ {A = Ran} (record { opened = false; short = false; lines = 1; store = o .store }) (ran l (length out))
+    unfolding ran finalStore
+    refusal-run e h =
+        let f : 4 * length (outcome l) ≤ length out = omega (arith, ap length (one-line e)) in
+        rw (le-leb (4 * length (outcome l)) (length out) f, refused e, one-line e, q)
+
+    pub refusal-out : (new : List ℕ) → b ≡ false → 4 ≤ length out → new ≡ written out 0 (reported (o .answer)) → new ≡ ranOut l out
+    unfolding ranOut numbers
+    refusal-out new e h w =
+        let f : 4 * length (outcome l) ≤ length out = omega (arith, ap length (one-line e)) in
+        rw (le-leb (4 * length (outcome l)) (length out) f, one-line e) (w ∙ ap (λ (x : List ℕ). x ++ drop 4 out) (sym (append-nil (numbersOf (reported (o .answer))))))
