@@ -1,9 +1,9 @@
 -- Demand 3 of a tape: what `history` says, of the commands that a tape holds. Assumes nothing.
-use Prim.Native.Nat.{ℕ}
-use mathlib.Core.Path.{_≡_, refl, sym, subst}
+use Prim.Native.Nat.{ℕ, _*_}
+use mathlib.Core.Path.{_≡_, refl, sym, subst, _∙_}
 use mathlib.Core.Bool.{Bool, true, false, cond}
 use mathlib.Core.List.{List, [], _∷_}
-use lib.Dec.{ltb}
+use lib.Dec.{leb, ltb}
 use lib.ListN.{length}
 use Rattle.laws.proofs.ListLaws.{never, cond-true}
 use Rattle.decode.specs.Decode.{byteAt}
@@ -18,7 +18,8 @@ use Rattle.metadata.specs.declared.Answer.the-variants as A
 use Rattle.metadata.specs.declared.Answer.{Answer}
 use Rattle.metadata.specs.declared.Answered.{Answered}
 use Rattle.metadata.specs.declared.Store.{Store}
-use Rattle.tape.specs.Tape.{readFrom, tablesOf, groupOf, bodyAt, openTape, finalStore}
+use Rattle.tape.specs.declared.Ran.{Ran}
+use Rattle.tape.specs.Tape.{readFrom, tablesOf, groupOf, bodyAt, openTape, outcome, finalStore, ran, TapeClaims}
 
 abbrev refusal : Answer → Answered
 refusal a = record { answer = a; store = refusedStore }
@@ -45,3 +46,14 @@ tape-history l e =
     (subst (λ (o : Answered). Claims (begun (tablesOf l) (groupOf l)) (readFrom l (bodyAt l) .commands) (answers (o .store) (readFrom l (bodyAt l) .commands)) (run (o .store) (readFrom l (bodyAt l) .commands)))
     (accepted l e)
     (history (tablesOf l) (groupOf l) (readFrom l (bodyAt l) .commands) (subst (λ (o : Answered). isApplied (o .answer) ≡ true) (sym (accepted l e)) e)))
+
+ran-go : (l : List ℕ) (t b : Bool) (n : ℕ) (s : Store) → b ≡ isApplied (openTape l .answer) →
+    TapeClaims l (cond t (record { opened = b; short = false; lines = n; store = finalStore l }) (record { opened = b; short = true; lines = n; store = s }))
+ran-go l true b n s q o e = tape-history l (sym q ∙ o)
+ran-go l false b n s q o e = absurd (never true refl e)
+
+-- of every run of a tape
+pub run-history : (l : List ℕ) (room : ℕ) (r : Ran) → r ≡ ran l room → TapeClaims l r
+unfolding ran
+run-history l room r e =
+    subst (TapeClaims l) (sym e) (ran-go l (leb (4 * length (outcome l)) room) (isApplied (openTape l .answer)) (length (outcome l)) (openTape l .store) refl)

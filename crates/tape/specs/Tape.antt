@@ -11,6 +11,8 @@ use Rattle.metadata.specs.Answers.{reported, isApplied}
 use Rattle.metadata.specs.Commands.{Command, naming, registering, lifecycle, tablet, placement, retirement, picking}
 use Rattle.metadata.specs.Opening.{opening, refusedStore}
 use Rattle.metadata.specs.Sound.{sound, run, answers}
+use Rattle.metadata.specs.History.{begun}
+use Rattle.metadata.specs.Claims.{Claims}
 use Rattle.metadata.specs.declared.Answer.{Answer}
 use Rattle.metadata.specs.declared.Answer.the-variants as A
 use Rattle.metadata.specs.declared.Answered.{Answered}
@@ -146,3 +148,9 @@ ran l room =
 
 unfoldable pub ranOut : List ℕ → List ℕ → List ℕ
 ranOut l out = cond (leb (4 * length (outcome l)) (length out)) (numbers (outcome l) ++ drop (4 * length (outcome l)) out) out
+
+-- demand 3 of a run: where the opening was accepted and the commands were run, all that `Claims` says of the tape's tables, group mark, commands and answers
+abbrev pub TapeClaims : List ℕ → Ran → Type 0
+TapeClaims l r =
+    r .opened ≡ true → r .short ≡ false →
+    Claims (begun (tablesOf l) (groupOf l)) (readFrom l (bodyAt l) .commands) (answers (openTape l .store) (readFrom l (bodyAt l) .commands)) (r .store)

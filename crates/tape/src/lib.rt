@@ -4,7 +4,7 @@ ghost use mathlib.Core.Bool.{true};
 ghost use Prim.Native.Nat.{_+_, _*_, _≤_, _<_};
 ghost use lib.ListN.{length, set};
 ghost use Rattle.metadata.specs.Answers.{reported};
-ghost use Rattle.tape.specs.Tape.{isCommand, sizeOf, nextAt, readFrom, lines, written, commandAt, Done, openTape, cutOpening, bodyAt, ran, ranOut};
+ghost use Rattle.tape.specs.Tape.{isCommand, sizeOf, nextAt, readFrom, lines, written, commandAt, Done, openTape, cutOpening, bodyAt, ran, ranOut, TapeClaims};
 ghost use Rattle.metadata.specs.Model.{step};
 ghost use Rattle.metadata.specs.Sound.{sound};
 use metadata::Answer;
@@ -244,7 +244,7 @@ pub fn body_at(tape: &[u8]) -> usize
 }
 
 // A whole tape in memory: four numbers for each answer go to the lent list. Too short a list: nothing is run, and nothing is written.
-pub fn run(tape: &[u8], out: &mut [u64]) -> Ran
+fn run_whole(tape: &[u8], out: &mut [u64]) -> Ran
     ensures { λ r. ⌜ (r ≡ ran (now (tape .entry)) (length (now (out .entry)))) × (now (out .exit) ≡ ranOut (now (tape .entry)) (now (out .entry))) ⌝ }
 {
     let first = open_tape(tape);
@@ -284,4 +284,13 @@ pub fn run(tape: &[u8], out: &mut [u64]) -> Ran
         lines: 1,
         store,
     }
+}
+
+// The same, with demand 3: where the opening is accepted and the list is long enough, the store is what the history says of the tape's commands and their answers.
+pub fn run(tape: &[u8], out: &mut [u64]) -> Ran
+    ensures ran { λ r. ⌜ r ≡ ran (now (tape .entry)) (length (now (out .entry))) ⌝ }
+    ensures out { λ r. ⌜ now (out .exit) ≡ ranOut (now (tape .entry)) (now (out .entry)) ⌝ }
+    ensures history { λ r. ⌜ TapeClaims (now (tape .entry)) r ⌝ }
+{
+    run_whole(tape, out)
 }
