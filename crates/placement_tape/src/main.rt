@@ -1,0 +1,301 @@
+// The tape program: the command tape on standard input, output lines on standard output. It reads as it goes and never holds
+// more than a buffer of the tape. With --dump it prints the final tables and marks behind the last line.
+mod dump;
+
+ghost use mathlib.Core.Path.{_≡_};
+ghost use mathlib.Core.Bool.{true};
+ghost use Prim.Native.Nat.{_≤_};
+ghost use lib.ListN.{length};
+ghost use Rattle.metadata.specs.Sound.{sound};
+ghost use Rattle.placement_tape.specs.Feeding.{Fed, GoodFeed};
+use libc::STDERR_FILENO;
+use libc::STDIN_FILENO;
+use libc::STDOUT_FILENO;
+use metadata::Answer;
+use metadata::Store;
+use metadata::is_applied;
+use metadata::report;
+use tape::Next;
+
+// How far a chunk was run: the store, the place of the next command, its line, and the bytes of output.
+pub struct Chunk {
+    pub store: Store,
+    pub at: usize,
+    pub line: u64,
+    pub used: usize,
+    pub stopped: bool,
+    pub full: bool,
+}
+
+// Runs the whole commands of a chunk, a line each, while a line has room.
+fn run_chunk(s: Store, chunk: &[u8], from: usize, first: u64, out: &mut [u8]) -> Chunk
+    requires { ⌜ (sound s ≡ true) × (from ≤ length (now chunk)) ⌝ }
+    ensures { λ r. ⌜ Fed (now (chunk .entry)) s from (length (now (out .entry))) r ⌝ }
+{
+    let mut store = s;
+    let mut at = from;
+    let mut line = first;
+    let mut used: usize = 0;
+    while at < chunk.len() {
+        if out.len() - used < 105 {
+            return Chunk {
+                store,
+                at,
+                line,
+                used,
+                stopped: false,
+                full: true,
+            };
+        }
+        match tape::next_at(chunk, at) {
+            Next::Whole(b, m) => {
+                let done = tape::command_step(store, b, chunk, at + 1);
+                let answer = done.answer;
+                used = lines::put_line(out, used, line, report(answer));
+                line = std::num::wrapping_add_u64(line, 1);
+                store = done.store;
+                at = m;
+            }
+            Next::Unknown(b) => {
+                used = lines::put_line(out, used, line, report(Answer::BadTape(1, b)));
+                return Chunk {
+                    store,
+                    at,
+                    line,
+                    used,
+                    stopped: true,
+                    full: false,
+                };
+            }
+            Next::Cut(_) => {
+                return Chunk {
+                    store,
+                    at,
+                    line,
+                    used,
+                    stopped: false,
+                    full: false,
+                };
+            }
+            Next::End => {
+                return Chunk {
+                    store,
+                    at,
+                    line,
+                    used,
+                    stopped: false,
+                    full: false,
+                };
+            }
+        }
+    }
+    Chunk {
+        store,
+        at,
+        line,
+        used,
+        stopped: false,
+        full: false,
+    }
+}
+
+// The bytes at hand, after reading on: none are left where the input ended.
+pub struct Filled {
+    pub buf: [u8; 65536],
+    pub have: usize,
+    pub done: bool,
+}
+
+// Where the run stands: the place of the next command and its line, and whether all is done.
+pub struct Feed {
+    pub store: Store,
+    pub line: u64,
+    pub at: usize,
+    pub filled: Filled,
+}
+
+// The first bytes of a text.
+fn emit(text: &[u8], n: usize) {
+    if n <= text.len() {
+        io::write_all(STDOUT_FILENO, &text[..n]);
+    }
+}
+
+fn print_line(line: u64, answer: Answer) {
+    let mut out = [0u8; 128];
+    let n = lines::put_line(&mut out, 0, line, report(answer));
+    emit(&out, n);
+}
+
+// The bytes from a place on, at the front.
+fn moved(buf: [u8; 65536], at: usize, have: usize) -> [u8; 65536]
+    requires { ⌜ (at ≤ have) × (have ≤ 65536) ⌝ }
+{
+    let mut out = buf;
+    let mut i = at;
+    while i < have {
+        out[i - at] = buf[i];
+        i += 1;
+    }
+    out
+}
+
+// The input ended: a command that is not whole is cut short.
+fn finish(buf: [u8; 65536], left: usize, line: u64)
+    requires { ⌜ left ≤ 65536 ⌝ }
+{
+    match tape::next_at(&buf[..left], 0) {
+        Next::Cut(b) => {
+            print_line(line, Answer::BadTape(2, b));
+        }
+        Next::Unknown(_) => {}
+        Next::Whole(_, _) => {}
+        Next::End => {}
+    }
+}
+
+// The bytes from a place on, and more of the input behind them.
+fn refill(buf: [u8; 65536], at: usize, have: usize, line: u64) -> Filled
+    requires { ⌜ (at ≤ have) × (have ≤ 65536) ⌝ }
+    ensures { λ r. ⌜ r .have ≤ 65536 ⌝ }
+{
+    let left = have - at;
+    let mut front = moved(buf, at, have);
+    let got = io::read_full(STDIN_FILENO, &mut front[left..]);
+    if got == 0 {
+        finish(front, left, line);
+        return Filled {
+            buf: front,
+            have: left,
+            done: true,
+        };
+    }
+    Filled {
+        buf: front,
+        have: left + got,
+        done: false,
+    }
+}
+
+// The commands at hand are run and their lines written.
+fn turn(s: Store, buf: [u8; 65536], have: usize, from: usize, first: u64) -> Feed
+    requires { ⌜ (sound s ≡ true) × ((from ≤ have) × (have ≤ 65536)) ⌝ }
+    ensures { λ r. ⌜ GoodFeed r ⌝ }
+{
+    let mut out = io::large_buffer();
+    let c = run_chunk(s, &buf[..have], from, first, &mut out);
+    emit(&out, c.used);
+    let store = c.store;
+    let line = c.line;
+    let at = c.at;
+    if c.stopped {
+        return Feed {
+            store,
+            line,
+            at,
+            filled: Filled {
+                buf,
+                have,
+                done: true,
+            },
+        };
+    }
+    if c.full {
+        return Feed {
+            store,
+            line,
+            at,
+            filled: Filled {
+                buf,
+                have,
+                done: false,
+            },
+        };
+    }
+    let filled = refill(buf, at, have, line);
+    Feed {
+        store,
+        line,
+        at: 0,
+        filled,
+    }
+}
+
+// A proved loop has to end, and nothing says that an input does: the loop counts its turns down from a number that no run uses up.
+fn feed_all(start: Feed) -> Store
+    requires { ⌜ GoodFeed start ⌝ }
+{
+    let mut f = start;
+    let mut turns = u64::MAX;
+    while turns > 0 {
+        let filled = f.filled;
+        if filled.done {
+            return f.store;
+        }
+        let buf = filled.buf;
+        f = turn(f.store, buf, filled.have, f.at, f.line);
+        turns -= 1;
+    }
+    f.store
+}
+
+// The commands behind an accepted opening.
+fn run_tape(store: Store, buf: [u8; 65536], have: usize) -> Store
+    requires { ⌜ (sound store ≡ true) × (have ≤ 65536) ⌝ }
+{
+    let at = tape::body_at(&buf[..have]);
+    if have < at {
+        return store;
+    }
+    feed_all(Feed {
+        store,
+        line: 1,
+        at,
+        filled: Filled {
+            buf,
+            have,
+            done: false,
+        },
+    })
+}
+
+// 0: no argument; 1: --dump; 2: anything else.
+fn mode() -> u8 {
+    let count = os::arg_count();
+    if count <= 1 {
+        return 0;
+    }
+    if count > 2 {
+        return 2;
+    }
+    let mut word = io::buffer();
+    let n = os::arg(1, &mut word);
+    if check::same(&word[..n], b"--dump") {
+        return 1;
+    }
+    2
+}
+
+fn main() {
+    let how = mode();
+    if how == 2 {
+        io::write_all(
+            STDERR_FILENO,
+            b"placement_tape: accepted: no argument, or --dump\n",
+        );
+        return;
+    }
+    let mut buf = io::large_buffer();
+    let have = io::read_full(STDIN_FILENO, &mut buf);
+    let first = tape::open_tape(&buf[..have]);
+    let answer = first.answer;
+    let mut store = first.store;
+    if is_applied(answer) {
+        store = run_tape(store, buf, have);
+    } else {
+        print_line(0, answer);
+    }
+    if how == 1 {
+        dump::store(store);
+    }
+}
