@@ -118,7 +118,7 @@ fn put(out: &mut [u64], at: usize, n: u64)
     out[at] = n;
 }
 
-// An answer's four numbers from a place on.
+// Inner: the run and the opening show that there is room. An answer's four numbers from a place on.
 pub fn write_answer(out: &mut [u64], at: usize, answer: Answer)
     requires { ⌜ at + 4 ≤ length (now out) ⌝ }
     ensures { λ r. ⌜ (now (out .exit) ≡ written (now (out .entry)) at (reported answer)) × (length (now (out .exit)) ≡ length (now (out .entry))) ⌝ }

@@ -8,7 +8,7 @@ use Rattle.io.proofs.large_buffer.Reads as large-buffer-reads
 use Rattle.io.proofs.read_full.Reads as read-full-reads
 use Rattle.io.proofs.write_all.Reads as write-all-reads
 use Rattle.metadata.proofs.is_applied.Reads as is-applied-reads
-use Rattle.placement_tape.proofs.dump.store.Reads as store-reads
+use Rattle.placement_tape.proofs.dump_store.Reads as dump-store-reads
 use Rattle.placement_tape.proofs.mode.Reads as mode-reads
 use Rattle.placement_tape.proofs.print_line.Reads as print-line-reads
 use Rattle.placement_tape.proofs.run_tape.Reads as run-tape-reads
@@ -67,8 +67,8 @@ print-line-requires : tie.Need-print-line-requires
 print-line-requires c κs = search needs
 
 -- src/main.rt:221:9
-store-requires : tie.Need-store-requires
-store-requires c κs = search needs
+dump-store-requires : tie.Need-dump-store-requires
+dump-store-requires c κs = search needs
 
 -- src/main.rt:204:1
 returns-2 : tie.Need-returns-2
@@ -95,6 +95,6 @@ main-spec =
     is-applied-requires
     run-tape-requires
     print-line-requires
-    store-requires
+    dump-store-requires
     returns-2
     returns-3)
