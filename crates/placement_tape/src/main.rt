@@ -5,7 +5,8 @@ ghost use mathlib.Core.Bool.{true};
 ghost use Prim.Native.Nat.{_≤_};
 ghost use lib.ListN.{length};
 ghost use Rattle.metadata.specs.Sound.{sound};
-ghost use Rattle.placement_tape.specs.Feeding.{Fed, GoodFeed};
+ghost use Rattle.placement_tape.specs.Feeding.{GoodFeed, bufferSize};
+use chunks::run_chunk;
 use libc::STDERR_FILENO;
 use libc::STDIN_FILENO;
 use libc::STDOUT_FILENO;
@@ -28,91 +29,12 @@ use metadata::is_applied;
 use metadata::report;
 use tape::Next;
 
-// How far a chunk was run: the store, the place of the next command, its line, and the bytes of output.
-pub struct Chunk {
-    pub store: Store,
-    pub at: usize,
-    pub line: u64,
-    pub used: usize,
-    pub stopped: bool,
-    pub full: bool,
-}
-
-// Runs the whole commands of a chunk, a line each, while a line has room.
-fn run_chunk(s: Store, chunk: &[u8], from: usize, first: u64, out: &mut [u8]) -> Chunk
-    requires { ⌜ (sound s ≡ true) × (from ≤ length (now chunk)) ⌝ }
-    ensures { λ r. ⌜ Fed (now (chunk .entry)) s from (length (now (out .entry))) r ⌝ }
-{
-    let mut store = s;
-    let mut at = from;
-    let mut line = first;
-    let mut used: usize = 0;
-    while at < chunk.len() {
-        if out.len() - used < 105 {
-            return Chunk {
-                store,
-                at,
-                line,
-                used,
-                stopped: false,
-                full: true,
-            };
-        }
-        match tape::next_at(chunk, at) {
-            Next::Whole(b, m) => {
-                let done = tape::command_step(store, b, chunk, at + 1);
-                let answer = done.answer;
-                used = lines::put_line(out, used, line, report(answer));
-                line = std::num::wrapping_add_u64(line, 1);
-                store = done.store;
-                at = m;
-            }
-            Next::Unknown(b) => {
-                used = lines::put_line(out, used, line, report(Answer::BadTape(1, b)));
-                return Chunk {
-                    store,
-                    at,
-                    line,
-                    used,
-                    stopped: true,
-                    full: false,
-                };
-            }
-            Next::Cut(_) => {
-                return Chunk {
-                    store,
-                    at,
-                    line,
-                    used,
-                    stopped: false,
-                    full: false,
-                };
-            }
-            Next::End => {
-                return Chunk {
-                    store,
-                    at,
-                    line,
-                    used,
-                    stopped: false,
-                    full: false,
-                };
-            }
-        }
-    }
-    Chunk {
-        store,
-        at,
-        line,
-        used,
-        stopped: false,
-        full: false,
-    }
-}
+// How much of the tape is held: the size of io::large_buffer. specs/Feeding.antt names it once more.
+const BUFFER_SIZE: usize = 65536;
 
 // The bytes at hand, after reading on: none are left where the input ended.
 pub struct Filled {
-    pub buf: [u8; 65536],
+    pub buf: [u8; BUFFER_SIZE],
     pub have: usize,
     pub done: bool,
 }
@@ -139,8 +61,8 @@ fn print_line(line: u64, answer: Answer) {
 }
 
 // The bytes from a place on, at the front.
-fn moved(buf: [u8; 65536], at: usize, have: usize) -> [u8; 65536]
-    requires { ⌜ (at ≤ have) × (have ≤ 65536) ⌝ }
+fn moved(buf: [u8; BUFFER_SIZE], at: usize, have: usize) -> [u8; BUFFER_SIZE]
+    requires { ⌜ (at ≤ have) × (have ≤ bufferSize) ⌝ }
 {
     let mut out = buf;
     let mut i = at;
@@ -152,8 +74,8 @@ fn moved(buf: [u8; 65536], at: usize, have: usize) -> [u8; 65536]
 }
 
 // The input ended: a command that is not whole is cut short.
-fn finish(buf: [u8; 65536], left: usize, line: u64)
-    requires { ⌜ left ≤ 65536 ⌝ }
+fn finish(buf: [u8; BUFFER_SIZE], left: usize, line: u64)
+    requires { ⌜ left ≤ bufferSize ⌝ }
 {
     match tape::next_at(&buf[..left], 0) {
         Next::Cut(b) => {
@@ -166,9 +88,9 @@ fn finish(buf: [u8; 65536], left: usize, line: u64)
 }
 
 // The bytes from a place on, and more of the input behind them.
-fn refill(buf: [u8; 65536], at: usize, have: usize, line: u64) -> Filled
-    requires { ⌜ (at ≤ have) × (have ≤ 65536) ⌝ }
-    ensures { λ r. ⌜ r .have ≤ 65536 ⌝ }
+fn refill(buf: [u8; BUFFER_SIZE], at: usize, have: usize, line: u64) -> Filled
+    requires { ⌜ (at ≤ have) × (have ≤ bufferSize) ⌝ }
+    ensures { λ r. ⌜ r .have ≤ bufferSize ⌝ }
 {
     let left = have - at;
     let mut front = moved(buf, at, have);
@@ -189,8 +111,8 @@ fn refill(buf: [u8; 65536], at: usize, have: usize, line: u64) -> Filled
 }
 
 // The commands at hand are run and their lines written.
-fn turn(s: Store, buf: [u8; 65536], have: usize, from: usize, first: u64) -> Feed
-    requires { ⌜ (sound s ≡ true) × ((from ≤ have) × (have ≤ 65536)) ⌝ }
+fn turn(s: Store, buf: [u8; BUFFER_SIZE], have: usize, from: usize, first: u64) -> Feed
+    requires { ⌜ (sound s ≡ true) × ((from ≤ have) × (have ≤ bufferSize)) ⌝ }
     ensures { λ r. ⌜ GoodFeed r ⌝ }
 {
     let mut out = io::large_buffer();
@@ -251,8 +173,8 @@ fn feed_all(start: Feed) -> Store
 }
 
 // The commands behind an accepted opening.
-fn run_tape(store: Store, buf: [u8; 65536], have: usize) -> Store
-    requires { ⌜ (sound store ≡ true) × (have ≤ 65536) ⌝ }
+fn run_tape(store: Store, buf: [u8; BUFFER_SIZE], have: usize) -> Store
+    requires { ⌜ (sound store ≡ true) × (have ≤ bufferSize) ⌝ }
 {
     let at = tape::body_at(&buf[..have]);
     if have < at {

@@ -6,7 +6,7 @@ use Rattle.placement_tape.proofs.turn.Lts as lts
 use Rattle.io.proofs.large_buffer.Reads as large-buffer-reads
 use Rattle.placement_tape.proofs.emit.Reads as emit-reads
 use Rattle.placement_tape.proofs.refill.Reads as refill-reads
-use Rattle.placement_tape.proofs.run_chunk.Reads as run-chunk-reads
+use Rattle.chunks.proofs.run_chunk.Reads as run-chunk-reads
 
 -- src/main.rt:142:19
 large-buffer-requires : tie.Need-large-buffer-requires
