@@ -152,7 +152,7 @@ pub fn judge_lifecycle(
     Answer::Applied
 }
 
-fn decide_lifecycle(
+pub fn decide_lifecycle(
     cluster_id: OptionalName,
     nodes: Nodes,
     tablets: Tablets,

@@ -25,7 +25,7 @@ pub fn judge_naming(cluster_id: OptionalName, t: Name) -> Answer
     Answer::Applied
 }
 
-fn decide_naming(cluster_id: OptionalName, t: Name) -> Answer
+pub fn decide_naming(cluster_id: OptionalName, t: Name) -> Answer
     ensures { λ r. ⌜ r ≡ namingAnswer «cluster_id» t ⌝ }
 {
     let reason = naming_reason(t);

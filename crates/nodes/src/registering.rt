@@ -181,7 +181,7 @@ pub fn judge_registering(
     judge_known_node(nodes, tablets, placements, n)
 }
 
-fn decide_registering(
+pub fn decide_registering(
     cluster_id: OptionalName,
     nodes: Nodes,
     tablets: Tablets,
@@ -201,7 +201,7 @@ fn decide_registering(
 }
 
 // A new node takes its place, a known one moves on. The caller shows that there is room for a new one.
-fn registered_nodes(nodes: Nodes, n: NodeDescriptor) -> Nodes
+pub fn registered_nodes(nodes: Nodes, n: NodeDescriptor) -> Nodes
     requires { ⌜ (soundTable nodeKey isZeroNode nodeRoom (nodes .count) (nodes .rows) ≡ true) × (has nodeKey (n .«node_id» .0) (viewNodes nodes) ≡ false → nodes .count < nodeRoom) ⌝ }
     ensures { λ r. ⌜ r ≡ packNodes (registeredNodes n (viewNodes nodes)) ⌝ }
 {

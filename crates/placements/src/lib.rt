@@ -449,7 +449,7 @@ fn judge_room(placements: Placements, tablet: TabletId) -> Answer
 }
 
 // The row in place of the stored one, or at its own place among the others.
-fn put_placement(t: Placements, p: DesiredReplicaPlacement) -> Placements
+pub fn put_placement(t: Placements, p: DesiredReplicaPlacement) -> Placements
     ensures { λ r. ⌜ r ≡ placementsPut t p ⌝ }
 {
     let Found::At(i) = find_placement(t, p.tablet_id) else {
@@ -551,7 +551,7 @@ pub fn judge_placement(
 // ---- the command
 
 // Every check of a placement, from admission on.
-fn decide_placement(
+pub fn decide_placement(
     cluster_id: OptionalName,
     nodes: Nodes,
     tablets: Tablets,

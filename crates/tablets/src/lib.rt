@@ -429,7 +429,7 @@ pub struct RetirementsAnswered {
 }
 
 // Every check of a tablet, from admission on.
-fn decide_tablet(
+pub fn decide_tablet(
     cluster_id: OptionalName,
     tables: Tables,
     tablets: Tablets,
@@ -469,7 +469,7 @@ pub fn apply_create_tablet(
 }
 
 // Every check of a retirement, from admission on.
-fn decide_retirement(
+pub fn decide_retirement(
     cluster_id: OptionalName,
     tablets: Tablets,
     placements: Placements,

@@ -1,5 +1,5 @@
 -- The command tape (document 01): what it holds, what it is answered, and the store that is left. Assumes nothing.
-use Prim.Native.Nat.{ℕ, zero, suc, _+_, _*_, _-_}
+use Prim.Native.Nat.{ℕ, zero, suc, _+_, _*_, _-_, _≤_, _<_}
 use mathlib.Core.Path.{_≡_}
 use mathlib.Core.Bool.{Bool, true, false, cond, _&&_}
 use mathlib.Core.List.{List, [], _∷_, _++_}
@@ -9,6 +9,8 @@ use Rattle.decode.specs.Decode.{numberAt, byteAt, nameAt, nodeAt, tabletAt, pla
 use Rattle.metadata.specs.Rooms.{tableRoom}
 use Rattle.metadata.specs.Answers.{reported, isApplied}
 use Rattle.metadata.specs.Commands.{Command, naming, registering, lifecycle, tablet, placement, retirement, picking}
+use Rattle.metadata.specs.Model.{decide, view, viewNodes, packNodes}
+use Rattle.metadata.specs.Nodes.{registeredNodes, movedNodes}
 use Rattle.metadata.specs.Opening.{opening, refusedStore}
 use Rattle.metadata.specs.Sound.{sound, run, answers}
 use Rattle.metadata.specs.History.{begun}
@@ -16,6 +18,8 @@ use Rattle.metadata.specs.Claims.{Claims}
 use Rattle.metadata.specs.declared.Answer.{Answer}
 use Rattle.metadata.specs.declared.Answer.the-variants as A
 use Rattle.metadata.specs.declared.Answered.{Answered}
+use Rattle.metadata.specs.declared.Catalog.{Catalog}
+use Rattle.metadata.specs.declared.Directory.{Directory}
 use Rattle.tape.specs.declared.Next.{Next}
 use Rattle.tape.specs.declared.Ran.{Ran}
 use Rattle.tape.specs.declared.Next.the-variants as N
@@ -41,6 +45,30 @@ commandAt b l at =
     (cond (eqb b 3) (lifecycle (record { 0 = numberAt 8 l at }) (byteAt l (at + 8)))
     (cond (eqb b 4) (tablet (tabletAt l at))
     (cond (eqb b 5) (placement (placementAt l at)) (cond (eqb b 6) (retirement (retirementAt l at)) picking)))))
+
+-- ---- what an Applied command leaves of the store's two parts
+
+abbrev pub storeOf : Directory → Catalog → Store
+storeOf d c = record { directory = d; catalog = c }
+
+-- naming, registering and lifecycle change the directory
+abbrev pub directoryAfter : Command → Directory → Directory
+directoryAfter (naming t) d = record { «cluster_id» = record { present = true; text = t }; nodes = d .nodes }
+directoryAfter (registering n) d = record { «cluster_id» = d .«cluster_id»; nodes = packNodes (registeredNodes n (viewNodes (d .nodes))) }
+directoryAfter (lifecycle k to) d = record { «cluster_id» = d .«cluster_id»; nodes = packNodes (movedNodes k to (viewNodes (d .nodes))) }
+directoryAfter (tablet t) d = d
+directoryAfter (placement p) d = d
+directoryAfter (retirement x) d = d
+directoryAfter picking d = d
+
+-- one of the three stands at the place, and it is answered Applied on a sound store with this directory
+pub record DirectoryChange (d : Directory) (b : ℕ) (l : List ℕ) (at : ℕ) : Type 0 where
+  pub catalog : Catalog
+  pub known : isCommand b ≡ true
+  pub first : b < 4
+  pub fits : at + sizeOf b ≤ length l
+  pub sounds : sound (storeOf d catalog) ≡ true
+  pub applied : isApplied (decide (view (storeOf d catalog)) (commandAt b l at)) ≡ true
 
 -- ---- what a tape holds: whole commands, and then nothing or "40 (1 unknown byte or 2 cut short, command byte)"
 

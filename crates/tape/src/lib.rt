@@ -4,16 +4,28 @@ ghost use mathlib.Core.Bool.{true};
 ghost use Prim.Native.Nat.{_+_, _*_, _≤_, _<_};
 ghost use lib.ListN.{length, set};
 ghost use Rattle.metadata.specs.Answers.{reported};
-ghost use Rattle.tape.specs.Tape.{isCommand, sizeOf, nextAt, readFrom, lines, written, commandAt, Done, openTape, cutOpening, bodyAt, ran, ranOut, TapeClaims};
-ghost use Rattle.metadata.specs.Model.{step};
+ghost use Rattle.decode.specs.Decode.{tabletAt, placementAt, retirementAt};
+ghost use Rattle.metadata.specs.Model.{decide, view, raisedByTablet, raisedByPlacement};
+ghost use Rattle.placements.specs.Copies.{placementsPut};
+ghost use Rattle.rows.specs.Results.{tabletsWith, retirementsWith};
+ghost use Rattle.tape.specs.Tape.{isCommand, sizeOf, nextAt, readFrom, lines, written, commandAt, Done, openTape, cutOpening, bodyAt, ran, ranOut, TapeClaims, storeOf, directoryAfter, DirectoryChange};
 ghost use Rattle.metadata.specs.Sound.{sound};
 use metadata::Answer;
 use metadata::Answered;
+use metadata::Catalog;
+use metadata::Directory;
+use metadata::MetadataAllocatorState;
 use metadata::NodeId;
+use metadata::OptionalName;
+use metadata::Placements;
+use metadata::Retirements;
 use metadata::Store;
 use metadata::TABLE_ROOM;
+use metadata::Tablets;
 use metadata::is_applied;
 use metadata::report;
+use rows::retirements::insert_retirement;
+use rows::tablets::insert_tablet;
 
 // What stands at a place of a tape: nothing more, an unknown byte, a command that is cut short, or a whole command with its byte and the place of the next.
 pub enum Next {
@@ -131,30 +143,127 @@ pub fn write_answer(out: &mut [u64], at: usize, answer: Answer)
     put(out, at + 3, operands[2]);
 }
 
-// Inner: who runs a tape shows that the store is sound and that the command's bytes are there.
-pub fn command_step(s: Store, b: u8, tape: &[u8], at: usize) -> Answered
-    requires { ⌜ (sound s ≡ true) × ((isCommand b ≡ true) × (at + sizeOf b ≤ length (now tape))) ⌝ }
-    ensures { λ r. ⌜ r ≡ step s (commandAt b (now (tape .entry)) at) ⌝ }
+// Inner: who runs a tape shows that the command's bytes are there. What a command is answered.
+pub fn command_answer(
+    directory: Directory,
+    catalog: Catalog,
+    b: u8,
+    tape: &[u8],
+    at: usize,
+) -> Answer
+    requires { ⌜ (isCommand b ≡ true) × (at + sizeOf b ≤ length (now tape)) ⌝ }
+    ensures { λ r. ⌜ r ≡ decide (view (storeOf directory catalog)) (commandAt b (now (tape .entry)) at) ⌝ }
 {
+    let name = directory.cluster_id;
+    let nodes = directory.nodes;
+    let tablets = catalog.tablets;
+    let placements = catalog.placements;
+    let retirements = catalog.retirements;
     if b == 1 {
-        return store::cluster_initialized_step(s, decode::name_at(tape, at));
+        return nodes::naming::decide_naming(name, decode::name_at(tape, at));
     }
     if b == 2 {
-        return store::register_node_step(s, decode::node_at(tape, at));
+        let n = decode::node_at(tape, at);
+        return nodes::registering::decide_registering(name, nodes, tablets, placements, n);
     }
     if b == 3 {
-        return store::set_node_lifecycle_step(s, NodeId(decode::number8(tape, at)), tape[at + 8]);
+        let k = NodeId(decode::number8(tape, at));
+        let to = tape[at + 8];
+        return nodes::lifecycle::decide_lifecycle(name, nodes, tablets, placements, k, to);
     }
     if b == 4 {
-        return store::create_tablet_step(s, decode::tablet_at(tape, at));
+        return tablets::decide_tablet(name, catalog.tables, tablets, decode::tablet_at(tape, at));
     }
     if b == 5 {
-        return store::desired_placement_step(s, decode::placement_at(tape, at));
+        let p = decode::placement_at(tape, at);
+        return placements::decide_placement(name, nodes, tablets, placements, retirements, p);
     }
     if b == 6 {
-        return store::replica_retirement_step(s, decode::retirement_at(tape, at));
+        let x = decode::retirement_at(tape, at);
+        return tablets::decide_retirement(name, tablets, placements, retirements, x);
     }
-    store::initial_placement_step(s)
+    labels::pick_nodes(nodes)
+}
+
+// Inner: who runs a tape shows that the command was answered Applied. What naming, registering and lifecycle leave of the directory.
+pub fn directory_after(directory: Directory, b: u8, tape: &[u8], at: usize) -> Directory
+    requires { ⌜ DirectoryChange directory b (now tape) at ⌝ }
+    ensures { λ r. ⌜ r ≡ directoryAfter (commandAt b (now (tape .entry)) at) directory ⌝ }
+{
+    let cluster_id = directory.cluster_id;
+    let nodes = directory.nodes;
+    if b == 1 {
+        let text = decode::name_at(tape, at);
+        let named = OptionalName {
+            present: true,
+            text,
+        };
+        return Directory {
+            cluster_id: named,
+            nodes,
+        };
+    }
+    if b == 2 {
+        let more = nodes::registering::registered_nodes(nodes, decode::node_at(tape, at));
+        return Directory {
+            cluster_id,
+            nodes: more,
+        };
+    }
+    let k = NodeId(decode::number8(tape, at));
+    let moved = nodes::lifecycle::moved_nodes(nodes, k, tape[at + 8]);
+    Directory {
+        cluster_id,
+        nodes: moved,
+    }
+}
+
+// Inner: who runs a tape shows that the tablet's bytes are there, and later that it was answered Applied.
+pub fn tablets_after(tablets: Tablets, tape: &[u8], at: usize) -> Tablets
+    requires { ⌜ at + sizeOf 4 ≤ length (now tape) ⌝ }
+    ensures { λ r. ⌜ r ≡ tabletsWith tablets (tabletAt (now (tape .entry)) at) .tablets ⌝ }
+{
+    insert_tablet(tablets, decode::tablet_at(tape, at)).tablets
+}
+
+// Inner: the same for the marks that a tablet raises.
+pub fn marks_after_tablet(
+    marks: MetadataAllocatorState,
+    tape: &[u8],
+    at: usize,
+) -> MetadataAllocatorState
+    requires { ⌜ at + sizeOf 4 ≤ length (now tape) ⌝ }
+    ensures { λ r. ⌜ r ≡ raisedByTablet (tabletAt (now (tape .entry)) at) marks ⌝ }
+{
+    tablets::raised_by_tablet(marks, decode::tablet_at(tape, at))
+}
+
+// Inner: the same for a placement.
+pub fn placements_after(placements: Placements, tape: &[u8], at: usize) -> Placements
+    requires { ⌜ at + sizeOf 5 ≤ length (now tape) ⌝ }
+    ensures { λ r. ⌜ r ≡ placementsPut placements (placementAt (now (tape .entry)) at) ⌝ }
+{
+    placements::put_placement(placements, decode::placement_at(tape, at))
+}
+
+// Inner: the same for the mark that a placement raises.
+pub fn marks_after_placement(
+    marks: MetadataAllocatorState,
+    tape: &[u8],
+    at: usize,
+) -> MetadataAllocatorState
+    requires { ⌜ at + sizeOf 5 ≤ length (now tape) ⌝ }
+    ensures { λ r. ⌜ r ≡ raisedByPlacement (placementAt (now (tape .entry)) at) marks ⌝ }
+{
+    tablets::raised_by_placement(marks, decode::placement_at(tape, at))
+}
+
+// Inner: the same for a retirement.
+pub fn retirements_after(retirements: Retirements, tape: &[u8], at: usize) -> Retirements
+    requires { ⌜ at + sizeOf 6 ≤ length (now tape) ⌝ }
+    ensures { λ r. ⌜ r ≡ retirementsWith retirements (retirementAt (now (tape .entry)) at) .retirements ⌝ }
+{
+    insert_retirement(retirements, decode::retirement_at(tape, at)).retirements
 }
 
 fn behind(place: usize, room: usize) -> usize
@@ -169,34 +278,52 @@ pub fn run_commands(s: Store, tape: &[u8], at: usize, out: &mut [u64]) -> Store
     requires { ⌜ (sound s ≡ true) × (4 * lines (readFrom (now tape) at) ≤ length (now out)) ⌝ }
     ensures { λ r. ⌜ Done (now (tape .entry)) s at (now (out .entry)) r (now (out .exit)) ⌝ }
 {
-    let mut store = s;
+    let mut directory = s.directory;
+    let mut catalog = s.catalog;
     let mut i = at;
     let mut place: usize = 0;
     while i < tape.len() {
         match next_at(tape, i) {
             Next::Whole(b, m) => {
+                let from = i + 1;
                 let next = behind(place, out.len());
-                let done = command_step(store, b, tape, i + 1);
-                let answer = done.answer;
+                let answer = command_answer(directory, catalog, b, tape, from);
                 write_answer(out, place, answer);
-                store = done.store;
+                if is_applied(answer) {
+                    if b < 4 {
+                        directory = directory_after(directory, b, tape, from);
+                    } else if b == 4 {
+                        let tablets = tablets_after(catalog.tablets, tape, from);
+                        let marks = marks_after_tablet(catalog.marks, tape, from);
+                        catalog.tablets = tablets;
+                        catalog.marks = marks;
+                    } else if b == 5 {
+                        let placements = placements_after(catalog.placements, tape, from);
+                        let marks = marks_after_placement(catalog.marks, tape, from);
+                        catalog.placements = placements;
+                        catalog.marks = marks;
+                    } else if b == 6 {
+                        let retirements = retirements_after(catalog.retirements, tape, from);
+                        catalog.retirements = retirements;
+                    }
+                }
                 i = m;
                 place = next;
             }
             Next::Unknown(b) => {
                 write_answer(out, place, Answer::BadTape(1, b));
-                return store;
+                return Store { directory, catalog };
             }
             Next::Cut(b) => {
                 write_answer(out, place, Answer::BadTape(2, b));
-                return store;
+                return Store { directory, catalog };
             }
             Next::End => {
-                return store;
+                return Store { directory, catalog };
             }
         }
     }
-    store
+    Store { directory, catalog }
 }
 
 fn count_of(b: u8) -> usize
