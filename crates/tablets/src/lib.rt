@@ -1,8 +1,8 @@
 // Tablets, completeness, retirement, and the marks that a tablet or a placement raises.
 ghost use mathlib.Core.Path.{_≡_};
 ghost use mathlib.Core.Bool.{true, cond};
-ghost use Prim.Native.Nat.{_≤_, max};
-ghost use lib.Dec.{eqb, leb};
+ghost use Prim.Native.Nat.{_≤_};
+ghost use lib.Dec.{leb};
 ghost use lib.ListN.{length, take};
 ghost use Rattle.laws.specs.Keyed.{put};
 ghost use Rattle.laws.specs.Lists.{any, tally};
@@ -17,6 +17,8 @@ use admission::retirement_reason;
 use admission::tablet_reason;
 use fields::partitions_overlap;
 use laws::Found;
+use marks::larger;
+use marks::raise_in;
 use metadata::Answer;
 use metadata::DesiredReplica;
 use metadata::DesiredReplicaPlacement;
@@ -41,6 +43,7 @@ use records::same_retirement;
 use records::same_tablet;
 use records::zero_retirement;
 use records::zero_table;
+use replicas::placement_holds;
 use rows::placements::find_placement;
 use rows::placements::placement_at;
 use rows::retirements::find_retirement;
@@ -247,29 +250,12 @@ pub fn is_complete(k: TableId, tables: Tables, tablets: Tablets) -> bool
     count_in_table(k, tablets) == (limit as usize)
 }
 
-fn has_number(replica: ReplicaId, r: DesiredReplica) -> bool
-    ensures { λ b. ⌜ b ≡ eqb (r .«replica_id» .0) (replica .0) ⌝ }
-{
-    r.replica_id.0 == replica.0
-}
-
 // The replica number is desired.
 pub fn desires(replica: ReplicaId, p: DesiredReplicaPlacement) -> bool
     ensures { λ r. ⌜ r ≡ desires (replica .0) p ⌝ }
 {
     let replicas = p.replicas;
-    let to = p.replica_count as usize;
-    let mut i: usize = 0;
-    while i < to {
-        if REPLICA_ROOM <= i {
-            return false;
-        }
-        if has_number(replica, replicas[i]) {
-            return true;
-        }
-        i += 1;
-    }
-    false
+    placement_holds(replicas, p.replica_count, replica)
 }
 
 // The replica number is desired in the tablet's placement; nothing is desired without one.
@@ -366,22 +352,11 @@ pub fn judge_retirement(
     judge_new_retirement(t, placements, retirements, x)
 }
 
-pub fn larger(a: u64, b: u64) -> u64
-    ensures { λ r. ⌜ r ≡ max a b ⌝ }
-{
-    if a < b { b } else { a }
-}
-
 // The marks after an Applied tablet.
 pub fn raised_by_tablet(m: MetadataAllocatorState, t: TabletDescriptor) -> MetadataAllocatorState
     ensures { λ r. ⌜ r ≡ raisedByTablet t m ⌝ }
 {
-    MetadataAllocatorState {
-        max_table_id: m.max_table_id,
-        max_tablet_id: larger(m.max_tablet_id, t.tablet_id.0),
-        max_raft_group_id: larger(m.max_raft_group_id, t.raft_group_id.0),
-        max_replica_id: m.max_replica_id,
-    }
+    raise_in(m, 0, t.tablet_id.0, t.raft_group_id.0, 0)
 }
 
 // The mark, raised by the number of each of the first n replicas.
@@ -409,12 +384,8 @@ pub fn raised_by_placement(
     ensures { λ r. ⌜ r ≡ raisedByPlacement p m ⌝ }
 {
     let replicas = p.replicas;
-    MetadataAllocatorState {
-        max_table_id: m.max_table_id,
-        max_tablet_id: m.max_tablet_id,
-        max_raft_group_id: m.max_raft_group_id,
-        max_replica_id: highest_replica(replicas, p.replica_count, m.max_replica_id),
-    }
+    let highest = highest_replica(replicas, p.replica_count, 0);
+    raise_in(m, 0, 0, 0, highest)
 }
 
 // What a handler gives: the answer, and the one table that it changes.

@@ -4,14 +4,11 @@ use Rattle.tablets.proofs.MarkLaws.{marks-tablet}
 use Rattle.tablets.proofs.raised_by_tablet.Statement.{statement}
 use Rattle.tablets.proofs.raised_by_tablet.Tie as tie
 
-larger-requires : tie.Need-larger-requires
-larger-requires c κs = search needs
-
-larger-requires-2 : tie.Need-larger-requires-2
-larger-requires-2 c κs = search needs
+raise-in-requires : tie.Need-raise-in-requires
+raise-in-requires c κs = search needs
 
 returns : tie.Need-returns
 returns c = search (needs, marks-tablet)
 
 pub raised-by-tablet-spec : {M : Type 1} → statement M
-raised-by-tablet-spec = tie.close (tie.spec larger-requires larger-requires-2 returns)
+raised-by-tablet-spec = tie.close (tie.spec raise-in-requires returns)
