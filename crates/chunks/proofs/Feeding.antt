@@ -9,8 +9,8 @@ use borrow.Author.Needs.{needs}
 use Rattle.laws.proofs.ListLaws.{never}
 use Rattle.lines.specs.Lines.{lineText, Appended}
 use Rattle.lines.proofs.Texts.{joined}
-use Rattle.metadata.specs.Answers.{reported}
-use Rattle.metadata.specs.Model.{step}
+use Rattle.metadata.specs.Answers.{isApplied, reported}
+use Rattle.metadata.specs.Model.{decide, view, step}
 use Rattle.metadata.specs.Sound.{sound, run, answers}
 use Rattle.metadata.specs.declared.Answer.{Answer}
 use Rattle.metadata.specs.declared.Answer.the-variants as A
@@ -20,7 +20,8 @@ use Rattle.metadata.specs.declared.Store.{Store}
 use Rattle.metadata.proofs.Theorem.{entry-step, step-sound}
 use Rattle.tape.specs.declared.Next.{Next}
 use Rattle.tape.specs.declared.Next.the-variants as N
-use Rattle.tape.specs.Tape.{isCommand, sizeOf, commandAt, Reading, ended, stopped, nextAt, readFrom, tapeAnswers}
+use Rattle.tape.specs.Tape.{DirectoryChange, isCommand, sizeOf, commandAt, Reading, ended, stopped, nextAt, readFrom, tapeAnswers}
+use Rattle.tape.proofs.Changing.{Turned, turned}
 use Rattle.tape.proofs.Reading.{whole, read-whole, read-end, read-unknown, read-cut, next-end}
 use Rattle.chunks.specs.declared.Chunk.{Chunk}
 use Rattle.chunks.specs.Chunks.{lineRoom, nextLine, linesText, lineBehind, Fed}
@@ -159,24 +160,36 @@ module _ (l : List ℕ) (s₀ : Store) (from first : ℕ) (old : List ℕ) (s : 
       pub feed-less : length l - m < length l - at
       feed-less = let w = whole l at b m (sym q ∙ e) in omega (arith, w .next, w .inside, w .fits)
 
-      pub feed-next : (y : Answered) (r : Reported) (new : List ℕ) (n line′ : ℕ) → y ≡ step s (commandAt b l (at + 1)) → r ≡ reported (y .answer) → Appended (lineText line r) out used new n →
-          line′ ≡ (line + 1) % 2 ^ 64 → Feeding l s₀ from first old (y .store) m line′ n new
-      feed-next y r new n line′ d p a z =
+      -- naming, registering or lifecycle, answered Applied
+      pub feed-change : (a : Answer) (f : Bool) → a ≡ decide (view s) (commandAt b l (at + 1)) → f ≡ isApplied a → f ≡ true → b < 4 → DirectoryChange (s .directory) b l (at + 1)
+      feed-change a f d w h j =
           record {
-            done = k .done ++ y .answer ∷ [];
+            catalog = s .catalog;
+            known = feed-known;
+            first = j;
+            fits = feed-fits;
+            sounds = k .sounds;
+            applied = ap isApplied (sym d) ∙ sym w ∙ h;
+          }
+
+      pub feed-next : (a : Answer) (s′ : Store) (r : Reported) (new : List ℕ) (n line′ : ℕ) → Turned (s .directory) (s .catalog) b l (at + 1) a s′ → r ≡ reported a →
+          Appended (lineText line r) out used new n → line′ ≡ (line + 1) % 2 ^ 64 → Feeding l s₀ from first old s′ m line′ n new
+      feed-next a s′ r new n line′ d p g z =
+          record {
+            done = k .done ++ a ∷ [];
             split =
                 k .split ∙ ap (λ (t : Reading). k .done ++ tapeAnswers s t) (read-whole l at b m (sym q ∙ e))
                 ∙ ap (λ (t : Answered). k .done ++ (t .answer ∷ tapeAnswers (t .store) (readFrom l m))) (entry-step s (commandAt b l (at + 1)) (k .sounds) ∙ sym d)
-                ∙ sym (append-assoc (k .done) (y .answer ∷ []) (tapeAnswers (y .store) (readFrom l m)));
+                ∙ sym (append-assoc (k .done) (a ∷ []) (tapeAnswers s′ (readFrom l m)));
             store =
                 k .store ∙ ap (λ (t : Reading). run s (t .commands)) (read-whole l at b m (sym q ∙ e))
                 ∙ ap (λ (t : Answered). run (t .store) (readFrom l m .commands)) (entry-step s (commandAt b l (at + 1)) (k .sounds) ∙ sym d);
-            text = line-more (y .answer) r new n p a;
-            numbered = z ∙ ap nextLine (k .numbered) ∙ behind-more first (k .done) (y .answer);
+            text = line-more a r new n p g;
+            numbered = z ∙ ap nextLine (k .numbered) ∙ behind-more first (k .done) a;
             sounds = subst (λ (t : Answered). sound (t .store) ≡ true) (sym d) (step-sound s (commandAt b l (at + 1)) (k .sounds));
             inside = whole l at b m (sym q ∙ e) .fits;
           }
 
 -- for `search feeding` at each need of the loop
 pub ruleset feeding =
-    (feed-start, feed-sound, feed-used, feed-room, feed-long, feed-long-after, feed-full, feed-over, feed-cut, feed-end, feed-unknown, feed-known, feed-fits, feed-less, feed-next, needs)
+    (feed-start, feed-sound, feed-used, feed-room, feed-long, feed-long-after, feed-full, feed-over, feed-cut, feed-end, feed-unknown, feed-known, feed-fits, feed-less, feed-change, feed-next, turned, needs)

@@ -7,8 +7,16 @@ ghost use Rattle.metadata.specs.Sound.{sound};
 ghost use Rattle.chunks.specs.Chunks.{Fed};
 use metadata::Answer;
 use metadata::Store;
+use metadata::is_applied;
 use metadata::report;
 use tape::Next;
+use tape::command_answer;
+use tape::directory_after;
+use tape::marks_after_placement;
+use tape::marks_after_tablet;
+use tape::placements_after;
+use tape::retirements_after;
+use tape::tablets_after;
 
 // The most bytes that a line has: five numbers of twenty digits, and a byte behind each.
 pub const LINE_ROOM: usize = 105;
@@ -28,14 +36,15 @@ pub fn run_chunk(s: Store, chunk: &[u8], from: usize, first: u64, out: &mut [u8]
     requires { ⌜ (sound s ≡ true) × (from ≤ length (now chunk)) ⌝ }
     ensures { λ r. ⌜ Fed (now (chunk .entry)) s from first (now (out .entry)) r (now (out .exit)) ⌝ }
 {
-    let mut store = s;
+    let mut directory = s.directory;
+    let mut catalog = s.catalog;
     let mut at = from;
     let mut line = first;
     let mut used: usize = 0;
     while at < chunk.len() {
         if out.len() - used < LINE_ROOM {
             return Chunk {
-                store,
+                store: Store { directory, catalog },
                 at,
                 line,
                 used,
@@ -45,17 +54,34 @@ pub fn run_chunk(s: Store, chunk: &[u8], from: usize, first: u64, out: &mut [u8]
         }
         match tape::next_at(chunk, at) {
             Next::Whole(b, m) => {
-                let done = tape::command_step(store, b, chunk, at + 1);
-                let answer = done.answer;
+                let place = at + 1;
+                let answer = command_answer(directory, catalog, b, chunk, place);
                 used = lines::put_line(out, used, line, report(answer));
                 line = std::num::wrapping_add_u64(line, 1);
-                store = done.store;
+                if is_applied(answer) {
+                    if b < 4 {
+                        directory = directory_after(directory, b, chunk, place);
+                    } else if b == 4 {
+                        let tablets = tablets_after(catalog.tablets, b, chunk, place);
+                        let marks = marks_after_tablet(catalog.marks, b, chunk, place);
+                        catalog.tablets = tablets;
+                        catalog.marks = marks;
+                    } else if b == 5 {
+                        let placements = placements_after(catalog.placements, b, chunk, place);
+                        let marks = marks_after_placement(catalog.marks, b, chunk, place);
+                        catalog.placements = placements;
+                        catalog.marks = marks;
+                    } else if b == 6 {
+                        let retirements = retirements_after(catalog.retirements, b, chunk, place);
+                        catalog.retirements = retirements;
+                    }
+                }
                 at = m;
             }
             Next::Unknown(b) => {
                 used = lines::put_line(out, used, line, report(Answer::BadTape(1, b)));
                 return Chunk {
-                    store,
+                    store: Store { directory, catalog },
                     at,
                     line,
                     used,
@@ -65,7 +91,7 @@ pub fn run_chunk(s: Store, chunk: &[u8], from: usize, first: u64, out: &mut [u8]
             }
             Next::Cut(_) => {
                 return Chunk {
-                    store,
+                    store: Store { directory, catalog },
                     at,
                     line,
                     used,
@@ -75,7 +101,7 @@ pub fn run_chunk(s: Store, chunk: &[u8], from: usize, first: u64, out: &mut [u8]
             }
             Next::End => {
                 return Chunk {
-                    store,
+                    store: Store { directory, catalog },
                     at,
                     line,
                     used,
@@ -86,7 +112,7 @@ pub fn run_chunk(s: Store, chunk: &[u8], from: usize, first: u64, out: &mut [u8]
         }
     }
     Chunk {
-        store,
+        store: Store { directory, catalog },
         at,
         line,
         used,

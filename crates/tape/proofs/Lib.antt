@@ -1,4 +1,5 @@
 pub mod Reading
 pub mod Running
 pub mod History
+pub mod Changing
 pub mod Loop

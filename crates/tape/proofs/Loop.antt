@@ -14,7 +14,7 @@ use Rattle.decode.specs.Decode.{byteAt, numberAt, nameAt, nodeAt, tabletAt, pla
 use Rattle.metadata.specs.Rooms.{tableRoom}
 use Rattle.metadata.specs.Answers.{reported, isApplied}
 use Rattle.metadata.specs.Commands.{naming, registering, lifecycle, tablet, placement, retirement, picking}
-use Rattle.metadata.specs.Model.{step}
+use Rattle.metadata.specs.Model.{decide, view, step}
 use Rattle.metadata.specs.Sound.{sound, run}
 use Rattle.metadata.specs.Opening.{opening}
 use Rattle.metadata.specs.declared.Answer.{Answer}
@@ -32,6 +32,8 @@ use Rattle.tape.specs.declared.Next.{Next}
 use Rattle.tape.specs.declared.Next.the-variants as N
 use Rattle.tape.specs.declared.Ran.{Ran}
 use Rattle.tape.specs.Tape.{
+  DirectoryChange,
+  Operands,
   isCommand,
   sizeOf,
   commandAt,
@@ -54,6 +56,7 @@ use Rattle.tape.specs.Tape.{
   ran,
   ranOut,
 }
+use Rattle.tape.proofs.Changing.{Turned, turned, is-naming, is-registering, is-lifecycle, is-tablet, is-placement, is-retirement, is-picking}
 use Rattle.tape.proofs.History.{accepted}
 use Rattle.metadata.proofs.Theorem.{history}
 use Rattle.tape.proofs.Reading.{whole, next-end, read-unknown, read-cut}
@@ -95,42 +98,31 @@ module _ (b : ℕ) (l : List ℕ) (at : ℕ) (h : at + sizeOf b ≤ length l) wh
   unfolding sizeOf
   room-6 e = room 6 48 e refl
 
--- ---- one step: each command
+-- for `search deciding` at each need
+pub ruleset deciding =
+    (room-1, room-2, room-3, room-3-id, room-3-last, room-4, room-5, room-6, is-naming, is-registering, is-lifecycle, is-tablet, is-placement, is-retirement, is-picking, needs)
 
-module _ (s : Store) (b : ℕ) (l : List ℕ) (at : ℕ) (r : Answered) where
-  pub is-naming : (t : Name) → b ≡ 1 → t ≡ nameAt l at → r ≡ step s (naming t) → r ≡ step s (commandAt b l at)
-  unfolding commandAt
-  is-naming t e q p = rw e (p ∙ ap (λ (x : Name). step s (naming x)) q)
+-- x is what stands at the place
+pub known-of : (l : List ℕ) (at b m : ℕ) (x : Next) → x ≡ nextAt l at → x ≡ N.Whole b m → isCommand b ≡ true
+known-of l at b m x q e = whole l at b m (sym q ∙ e) .known
 
-  pub is-registering : (n : NodeDescriptor) → b ≡ 2 → n ≡ nodeAt l at → r ≡ step s (registering n) → r ≡ step s (commandAt b l at)
-  unfolding commandAt
-  is-registering n e q p = rw e (p ∙ ap (λ (x : NodeDescriptor). step s (registering x)) q)
+pub operands-of : (l : List ℕ) (at b m n : ℕ) (x : Next) → x ≡ nextAt l at → x ≡ N.Whole b m → b ≡ n → Operands n b l (at + 1)
+operands-of l at b m n x q e z = let w = whole l at b m (sym q ∙ e) in record { is = z; fits = omega (arith, w .next, w .fits) }
 
-  pub is-lifecycle : (k to : ℕ) → b ≡ 3 → k ≡ numberAt 8 l at → to ≡ byteAt l (at + 8) → r ≡ step s (lifecycle (record { 0 = k }) to) → r ≡ step s (commandAt b l at)
-  unfolding commandAt
-  is-lifecycle k to e q w p = rw e (p ∙ rw (q, w))
+operand-room : (n b size : ℕ) (l : List ℕ) (at : ℕ) → Operands n b l at → sizeOf n ≡ size → at + size ≤ length l
+operand-room n b size l at k q = subst (λ (j : ℕ). at + j ≤ length l) (ap sizeOf (k .is) ∙ q) (k .fits)
 
-  pub is-tablet : (t : TabletDescriptor) → b ≡ 4 → t ≡ tabletAt l at → r ≡ step s (tablet t) → r ≡ step s (commandAt b l at)
-  unfolding commandAt
-  is-tablet t e q p = rw e (p ∙ ap (λ (x : TabletDescriptor). step s (tablet x)) q)
+pub size-4 : (b : ℕ) (l : List ℕ) (at : ℕ) → Operands 4 b l at → at + 107 ≤ length l
+unfolding sizeOf
+size-4 b l at k = operand-room 4 b 107 l at k refl
 
-  pub is-placement : (x : DesiredReplicaPlacement) → b ≡ 5 → x ≡ placementAt l at → r ≡ step s (placement x) → r ≡ step s (commandAt b l at)
-  unfolding commandAt
-  is-placement x e q p = rw e (p ∙ ap (λ (y : DesiredReplicaPlacement). step s (placement y)) q)
+pub size-5 : (b : ℕ) (l : List ℕ) (at : ℕ) → Operands 5 b l at → at + 234 ≤ length l
+unfolding sizeOf
+size-5 b l at k = operand-room 5 b 234 l at k refl
 
-  pub is-retirement : (x : RetiredReplicaLifetime) → b ≡ 6 → x ≡ retirementAt l at → r ≡ step s (retirement x) → r ≡ step s (commandAt b l at)
-  unfolding commandAt
-  is-retirement x e q p = rw e (p ∙ ap (λ (y : RetiredReplicaLifetime). step s (retirement y)) q)
-
-  pub is-picking : isCommand b ≡ true → (b ≡ 1 → ⊥) → (b ≡ 2 → ⊥) → (b ≡ 3 → ⊥) → (b ≡ 4 → ⊥) → (b ≡ 5 → ⊥) → (b ≡ 6 → ⊥) → r ≡ step s picking → r ≡ step s (commandAt b l at)
-  unfolding commandAt
-  is-picking k n1 n2 n3 n4 n5 n6 p =
-      let g = and-both (leb 1 b) (leb b 7) k in
-      let e : b ≡ 7 = seven b (leb-true 1 b (g .0)) (leb-true b 7 (g .1)) n1 n2 n3 n4 n5 n6 in
-      rw e p
-    where
-      seven : (n : ℕ) → 1 ≤ n → n ≤ 7 → (n ≡ 1 → ⊥) → (n ≡ 2 → ⊥) → (n ≡ 3 → ⊥) → (n ≡ 4 → ⊥) → (n ≡ 5 → ⊥) → (n ≡ 6 → ⊥) → n ≡ 7
-      seven n a z f1 f2 f3 f4 f5 f6 = omega arith
+pub size-6 : (b : ℕ) (l : List ℕ) (at : ℕ) → Operands 6 b l at → at + 48 ≤ length l
+unfolding sizeOf
+size-6 b l at k = operand-room 6 b 48 l at k refl
 
 -- ---- the loop: the answers so far end at the place
 
@@ -158,18 +150,31 @@ module _ (l : List ℕ) (s₀ : Store) (at₀ : ℕ) (out₀ : List ℕ) (s : St
     pub loop-sound : sound s ≡ true
     loop-sound = k .runs .sounds
 
+    -- naming, registering or lifecycle, answered Applied
+    pub loop-change : (b m : ℕ) (a : Answer) (f : Bool) → x ≡ nextAt l at → x ≡ N.Whole b m → a ≡ decide (view s) (commandAt b l (at + 1)) → f ≡ isApplied a → f ≡ true → b < 4 →
+        DirectoryChange (s .directory) b l (at + 1)
+    loop-change b m a f q e d w h j =
+        record {
+          catalog = s .catalog;
+          known = loop-known b m q e;
+          first = j;
+          fits = loop-fits b m q e;
+          sounds = k .runs .sounds;
+          applied = ap isApplied (sym d) ∙ sym w ∙ h;
+        }
+
     pub loop-room : (b m : ℕ) → x ≡ nextAt l at → x ≡ N.Whole b m → place + 4 ≤ length out
     loop-room b m q e = omega (arith, k .there, next-room l s₀ at₀ out₀ s at (k .line) out (k .runs) b m (sym q ∙ e))
 
-    pub loop-next : (b m : ℕ) (done : Answered) (next : ℕ) (new : List ℕ) → x ≡ nextAt l at → x ≡ N.Whole b m → next ≡ place + 4 → done ≡ step s (commandAt b l (at + 1)) →
-        new ≡ written out place (reported (done .answer)) → length new ≡ length out → Stands l s₀ at₀ out₀ (done .store) m next new
-    loop-next b m done next new q e f d w z =
+    pub loop-next : (b m : ℕ) (a : Answer) (s′ : Store) (next : ℕ) (new : List ℕ) → x ≡ nextAt l at → x ≡ N.Whole b m → next ≡ place + 4 →
+        Turned (s .directory) (s .catalog) b l (at + 1) a s′ → new ≡ written out place (reported a) → length new ≡ length out → Stands l s₀ at₀ out₀ s′ m next new
+    loop-next b m a s′ next new q e f d w z =
         record {
           line = k .line + 1;
           there = omega (arith, f, k .there);
           long = z ∙ k .long;
           runs =
-              subst (λ (n : List ℕ). Runs l s₀ at₀ out₀ (done .store) m (k .line + 1) n) (sym (w ∙ ap (λ (i : ℕ). written out i (reported (done .answer))) (k .there)))
+              subst (λ (n : List ℕ). Runs l s₀ at₀ out₀ s′ m (k .line + 1) n) (sym (w ∙ ap (λ (i : ℕ). written out i (reported a)) (k .there)))
               (subst (λ (y : Answered). Runs l s₀ at₀ out₀ (y .store) m (k .line + 1) (written out (4 * k .line) (reported (y .answer)))) (sym d)
               (runs-next l s₀ at₀ out₀ s at (k .line) out (k .runs) b m (sym q ∙ e)));
         }
@@ -205,7 +210,7 @@ same-now l s₀ at₀ out₀ s at place out k = k .long
 
 -- for `search running` at each need of the loop
 pub ruleset running =
-    (loop-start, loop-known, loop-fits, loop-less, loop-sound, loop-room, loop-next, unknown-room, cut-room, unknown-done, cut-done, end-done, over-done, same-after, same-now, needs)
+    (loop-start, loop-known, loop-fits, loop-less, loop-sound, loop-change, loop-room, loop-next, operands-of, unknown-room, cut-room, unknown-done, cut-done, end-done, over-done, same-after, same-now, turned, needs)
 
 -- ---- the opening
 

@@ -61,6 +61,11 @@ directoryAfter (placement p) d = d
 directoryAfter (retirement x) d = d
 directoryAfter picking d = d
 
+-- the byte is command n's, and its operands stand at the place
+pub record Operands (n b : ℕ) (l : List ℕ) (at : ℕ) : Type 0 where
+  pub is : b ≡ n
+  pub fits : at + sizeOf b ≤ length l
+
 -- one of the three stands at the place, and it is answered Applied on a sound store with this directory
 pub record DirectoryChange (d : Directory) (b : ℕ) (l : List ℕ) (at : ℕ) : Type 0 where
   pub catalog : Catalog

@@ -8,7 +8,7 @@ ghost use Rattle.decode.specs.Decode.{tabletAt, placementAt, retirementAt};
 ghost use Rattle.metadata.specs.Model.{decide, view, raisedByTablet, raisedByPlacement};
 ghost use Rattle.placements.specs.Copies.{placementsPut};
 ghost use Rattle.rows.specs.Results.{tabletsWith, retirementsWith};
-ghost use Rattle.tape.specs.Tape.{isCommand, sizeOf, nextAt, readFrom, lines, written, commandAt, Done, openTape, cutOpening, bodyAt, ran, ranOut, TapeClaims, storeOf, directoryAfter, DirectoryChange};
+ghost use Rattle.tape.specs.Tape.{isCommand, sizeOf, nextAt, readFrom, lines, written, commandAt, Done, openTape, cutOpening, bodyAt, ran, ranOut, TapeClaims, storeOf, directoryAfter, DirectoryChange, Operands};
 ghost use Rattle.metadata.specs.Sound.{sound};
 use metadata::Answer;
 use metadata::Answered;
@@ -219,8 +219,8 @@ pub fn directory_after(directory: Directory, b: u8, tape: &[u8], at: usize) -> D
 }
 
 // Inner: who runs a tape shows that the tablet's bytes are there, and later that it was answered Applied.
-pub fn tablets_after(tablets: Tablets, tape: &[u8], at: usize) -> Tablets
-    requires { ⌜ at + sizeOf 4 ≤ length (now tape) ⌝ }
+pub fn tablets_after(tablets: Tablets, b: u8, tape: &[u8], at: usize) -> Tablets
+    requires { ⌜ Operands 4 b (now tape) at ⌝ }
     ensures { λ r. ⌜ r ≡ tabletsWith tablets (tabletAt (now (tape .entry)) at) .tablets ⌝ }
 {
     insert_tablet(tablets, decode::tablet_at(tape, at)).tablets
@@ -229,18 +229,19 @@ pub fn tablets_after(tablets: Tablets, tape: &[u8], at: usize) -> Tablets
 // Inner: the same for the marks that a tablet raises.
 pub fn marks_after_tablet(
     marks: MetadataAllocatorState,
+    b: u8,
     tape: &[u8],
     at: usize,
 ) -> MetadataAllocatorState
-    requires { ⌜ at + sizeOf 4 ≤ length (now tape) ⌝ }
+    requires { ⌜ Operands 4 b (now tape) at ⌝ }
     ensures { λ r. ⌜ r ≡ raisedByTablet (tabletAt (now (tape .entry)) at) marks ⌝ }
 {
     tablets::raised_by_tablet(marks, decode::tablet_at(tape, at))
 }
 
 // Inner: the same for a placement.
-pub fn placements_after(placements: Placements, tape: &[u8], at: usize) -> Placements
-    requires { ⌜ at + sizeOf 5 ≤ length (now tape) ⌝ }
+pub fn placements_after(placements: Placements, b: u8, tape: &[u8], at: usize) -> Placements
+    requires { ⌜ Operands 5 b (now tape) at ⌝ }
     ensures { λ r. ⌜ r ≡ placementsPut placements (placementAt (now (tape .entry)) at) ⌝ }
 {
     placements::put_placement(placements, decode::placement_at(tape, at))
@@ -249,18 +250,19 @@ pub fn placements_after(placements: Placements, tape: &[u8], at: usize) -> Place
 // Inner: the same for the mark that a placement raises.
 pub fn marks_after_placement(
     marks: MetadataAllocatorState,
+    b: u8,
     tape: &[u8],
     at: usize,
 ) -> MetadataAllocatorState
-    requires { ⌜ at + sizeOf 5 ≤ length (now tape) ⌝ }
+    requires { ⌜ Operands 5 b (now tape) at ⌝ }
     ensures { λ r. ⌜ r ≡ raisedByPlacement (placementAt (now (tape .entry)) at) marks ⌝ }
 {
     tablets::raised_by_placement(marks, decode::placement_at(tape, at))
 }
 
 // Inner: the same for a retirement.
-pub fn retirements_after(retirements: Retirements, tape: &[u8], at: usize) -> Retirements
-    requires { ⌜ at + sizeOf 6 ≤ length (now tape) ⌝ }
+pub fn retirements_after(retirements: Retirements, b: u8, tape: &[u8], at: usize) -> Retirements
+    requires { ⌜ Operands 6 b (now tape) at ⌝ }
     ensures { λ r. ⌜ r ≡ retirementsWith retirements (retirementAt (now (tape .entry)) at) .retirements ⌝ }
 {
     insert_retirement(retirements, decode::retirement_at(tape, at)).retirements
@@ -293,17 +295,17 @@ pub fn run_commands(s: Store, tape: &[u8], at: usize, out: &mut [u64]) -> Store
                     if b < 4 {
                         directory = directory_after(directory, b, tape, from);
                     } else if b == 4 {
-                        let tablets = tablets_after(catalog.tablets, tape, from);
-                        let marks = marks_after_tablet(catalog.marks, tape, from);
+                        let tablets = tablets_after(catalog.tablets, b, tape, from);
+                        let marks = marks_after_tablet(catalog.marks, b, tape, from);
                         catalog.tablets = tablets;
                         catalog.marks = marks;
                     } else if b == 5 {
-                        let placements = placements_after(catalog.placements, tape, from);
-                        let marks = marks_after_placement(catalog.marks, tape, from);
+                        let placements = placements_after(catalog.placements, b, tape, from);
+                        let marks = marks_after_placement(catalog.marks, b, tape, from);
                         catalog.placements = placements;
                         catalog.marks = marks;
                     } else if b == 6 {
-                        let retirements = retirements_after(catalog.retirements, tape, from);
+                        let retirements = retirements_after(catalog.retirements, b, tape, from);
                         catalog.retirements = retirements;
                     }
                 }
