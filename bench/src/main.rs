@@ -23,6 +23,11 @@ const MIXED_RUNS: usize = 9;
 const SAMPLE: Duration = Duration::from_micros(100);
 const MOST_TIMES: usize = 32;
 
+const METHOD: &str = "Nanoseconds for one command. a: the Rust handlers behind the tape, as the oracle runs them (decoding, admission, handler, answers collected); b: the same handlers alone on
+values made beforehand; c: `lupinadze_run`. All three take the same commands in turn, in one process; the answers of a and c are equal, and so are the stores that a and b leave.
+A run of a row times the tape up to the row's last command and the tape before its first; a figure is the difference of the means of the lower halves of all runs, divided by the
+commands in between. A command that changes nothing is repeated 200 times.";
+
 /// Nanoseconds for a command on each side.
 struct Figures {
     name: String,
@@ -41,7 +46,8 @@ fn main() -> ExitCode {
     };
     let budget = Duration::from_secs_f64(budget);
 
-    println!("### Command by command\n");
+    println!("{METHOD}");
+    println!("\n### Command by command\n");
     header("command");
     for row in rows::by_command() {
         print(&measure(&row, budget));
@@ -84,7 +90,7 @@ fn print(figures: &Figures) {
     );
 }
 
-/// For each side, in each run: the tape with the row's commands, and the tape before them, one right behind the other. The median of the differences.
+/// For each side, in each run: the tape with the row's commands and the tape before them, one right behind the other.
 fn measure(row: &Row, budget: Duration) -> Figures {
     let mut before = Sequence::new(row.before.clone());
     let mut whole = Sequence::new([&row.before[..], &row.timed].concat());
@@ -93,34 +99,38 @@ fn measure(row: &Row, budget: Duration) -> Figures {
         assert_eq!(answer[0], row.answer, "{}", row.name);
     }
     let times = SIDES.map(|side| times(&mut whole, side));
-    let mut differences: [Vec<f64>; 3] = Default::default();
+    let mut with: [Vec<f64>; 3] = Default::default();
+    let mut without: [Vec<f64>; 3] = Default::default();
     let start = Instant::now();
     let mut runs = 0;
     while runs < LEAST || (runs < MOST && start.elapsed() < budget) {
         for turn in 0..SIDES.len() {
             let at = (runs + turn) % SIDES.len();
-            let mut time = |sequence: &mut Sequence| {
+            let time = |sequence: &mut Sequence| {
                 sequence.time(SIDES[at], times[at]).as_nanos() as f64 / times[at] as f64
             };
-            let (with, without) = if runs % 2 == 0 {
-                let with = time(&mut whole);
-                (with, time(&mut before))
+            if runs % 2 == 0 {
+                with[at].push(time(&mut whole));
+                without[at].push(time(&mut before));
             } else {
-                let without = time(&mut before);
-                (time(&mut whole), without)
-            };
-            differences[at].push((with - without) / commands as f64);
+                without[at].push(time(&mut before));
+                with[at].push(time(&mut whole));
+            }
         }
         runs += 1;
     }
+    let sides = std::array::from_fn(|at| {
+        let with = lower_half(std::mem::take(&mut with[at]));
+        (with - lower_half(std::mem::take(&mut without[at]))) / commands as f64
+    });
     Figures {
         name: row.name.clone(),
-        sides: differences.map(median),
+        sides,
         runs,
     }
 }
 
-/// Whole tapes, opening included: for each tape the median of its runs, summed and divided by all commands.
+/// Whole tapes, opening included, summed and divided by the number of commands.
 fn measure_tapes(name: &str, tapes: &[Vec<u8>]) -> Figures {
     let mut commands = 0;
     let mut sums = [0.0; 3];
@@ -135,7 +145,7 @@ fn measure_tapes(name: &str, tapes: &[Vec<u8>]) -> Figures {
             }
         }
         for (sum, samples) in sums.iter_mut().zip(samples) {
-            *sum += median(samples);
+            *sum += lower_half(samples);
         }
     }
     Figures {
@@ -151,9 +161,11 @@ fn times(sequence: &mut Sequence, side: Side) -> usize {
     (SAMPLE.as_nanos() / once.as_nanos() + 1).min(MOST_TIMES as u128) as usize
 }
 
-fn median(mut values: Vec<f64>) -> f64 {
+/// The mean of the lower half: what a run takes where other work does not disturb it.
+fn lower_half(mut values: Vec<f64>) -> f64 {
     values.sort_by(f64::total_cmp);
-    values[values.len() / 2]
+    values.truncate(values.len().div_ceil(2));
+    values.iter().sum::<f64>() / values.len() as f64
 }
 
 /// Prints the stack that the library takes, on the mixed tapes and the oracle's vectors, and holds the header to it.

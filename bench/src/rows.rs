@@ -129,17 +129,18 @@ fn ordinal(number: u64) -> String {
     }
 }
 
-/// Rows at several fills of one table: a command that adds the row with this number.
+/// Rows at several fills of one table. Behind many rows one command more is lost in the noise, so the last eighth of them is timed together.
 fn fills(name: &str, before: &[u8], numbers: &[u64], command: fn(u64) -> Vec<u8>) -> Vec<Row> {
     numbers
         .iter()
-        .map(|number| {
-            row(
-                format!("{name}, {}", ordinal(*number)),
-                [before, &many(1..=number - 1, command)].concat(),
-                command(*number),
-                APPLIED,
-            )
+        .map(|last| {
+            let first = last - (last / 8).max(1) + 1;
+            let name = match first == *last {
+                true => format!("{name}, {}", ordinal(*last)),
+                false => format!("{name}, {} to {}", ordinal(first), ordinal(*last)),
+            };
+            let before = [before, &many(1..=first - 1, command)].concat();
+            row(name, before, many(first..=*last, command), APPLIED)
         })
         .collect()
 }
