@@ -57,7 +57,7 @@ pub fn run(tape: &[u8]) -> Run {
     }
 }
 
-fn open(reader: &mut Reader) -> Result<MetadataState, Answer> {
+pub fn open(reader: &mut Reader) -> Result<MetadataState, Answer> {
     match reader.opening(admission::TABLE_ROOM) {
         Opening::Cut => Err(answer(40, [2, 0, 0])),
         Opening::Tables { group_mark, tables } if admission::opening_admitted(&tables) => {
@@ -72,7 +72,7 @@ fn answer(number: u64, operands: [u64; 3]) -> Answer {
 }
 
 /// Admission, then the handler, then the room for a new row.
-fn judge(state: &mut MetadataState, command: &Command) -> Answer {
+pub fn judge(state: &mut MetadataState, command: &Command) -> Answer {
     if let Some(reason) = admission::reason(command) {
         return answer(10, [reason, 0, 0]);
     }
@@ -89,7 +89,7 @@ fn judge(state: &mut MetadataState, command: &Command) -> Answer {
 }
 
 /// The table that the command may add a row to, by its number in 39 and its limit, if it is full.
-fn full_table(state: &MetadataState, command: &Command) -> Option<(u64, usize)> {
+pub fn full_table(state: &MetadataState, command: &Command) -> Option<(u64, usize)> {
     let (kind, limit) = match command {
         Command::Node(_) => (0, NODE_ROOM),
         Command::Tablet(_) => (1, TABLET_ROOM),
@@ -311,7 +311,7 @@ fn domain_number(name: &str) -> u64 {
     }
 }
 
-fn lifecycle(number: u8) -> NodeLifecycle {
+pub fn lifecycle(number: u8) -> NodeLifecycle {
     match number {
         0 => NodeLifecycle::Active,
         1 => NodeLifecycle::Draining,
@@ -331,7 +331,7 @@ fn role(number: u8) -> DesiredReplicaRole {
 }
 
 /// An admitted text is ASCII.
-fn text<const WIDTH: usize>(text: &Text<WIDTH>) -> String {
+pub fn text<const WIDTH: usize>(text: &Text<WIDTH>) -> String {
     String::from_utf8(text.bytes().to_vec()).expect("an admitted text is ASCII")
 }
 
@@ -339,7 +339,7 @@ fn optional(label: &Label) -> Option<String> {
     (label.length != ABSENT).then(|| text(label))
 }
 
-fn node_descriptor(node: &Node) -> NodeDescriptor {
+pub fn node_descriptor(node: &Node) -> NodeDescriptor {
     let [raft, snapshot, sql, admin] = &node.endpoints;
     let [region, zone, rack] = &node.labels;
     NodeDescriptor {
@@ -356,7 +356,7 @@ fn node_descriptor(node: &Node) -> NodeDescriptor {
     }
 }
 
-fn tablet_descriptor(tablet: &Tablet) -> TabletDescriptor {
+pub fn tablet_descriptor(tablet: &Tablet) -> TabletDescriptor {
     TabletDescriptor {
         tablet_id: TabletId(tablet.id),
         table_id: TableId(tablet.table),
@@ -376,7 +376,7 @@ fn tablet_descriptor(tablet: &Tablet) -> TabletDescriptor {
     }
 }
 
-fn desired_placement(placement: &Placement) -> DesiredReplicaPlacement {
+pub fn desired_placement(placement: &Placement) -> DesiredReplicaPlacement {
     let [regions, zones, racks] = placement.minima;
     DesiredReplicaPlacement {
         tablet_id: TabletId(placement.tablet),
@@ -403,7 +403,7 @@ fn desired_placement(placement: &Placement) -> DesiredReplicaPlacement {
     }
 }
 
-fn retired_lifetime(retirement: &Retirement) -> RetiredReplicaLifetime {
+pub fn retired_lifetime(retirement: &Retirement) -> RetiredReplicaLifetime {
     RetiredReplicaLifetime {
         raft_group_id: RaftGroupId(retirement.group),
         replica_id: ReplicaId(retirement.replica),

@@ -1,20 +1,9 @@
-//! The oracle: the Rust handlers of docs/src behind document 01's command tape. README.md says how to
-//! use it.
-
-mod admission;
-mod compare;
-mod coverage;
-mod dump;
-mod generate;
-mod handlers;
-mod model;
-mod random;
-mod tape;
-mod trials;
-mod vectors;
+//! The oracle's program: its words, standard input and standard output.
 
 use std::io::{self, Read, Write};
 use std::process::ExitCode;
+
+use oracle::{compare, dump, generate, handlers, model, text, vectors};
 
 const USAGE: &str = "usage: oracle [--dump] < TAPE
        oracle model [--dump] < TAPE
@@ -27,8 +16,8 @@ fn main() -> ExitCode {
     let words: Vec<String> = std::env::args().skip(1).collect();
     let words_as_text: Vec<&str> = words.iter().map(String::as_str).collect();
     match words_as_text[..] {
-        [] => oracle(false),
-        ["--dump"] => oracle(true),
+        [] => by_handlers(false),
+        ["--dump"] => by_handlers(true),
         ["model"] => by_model(false),
         ["model", "--dump"] => by_model(true),
         ["generate", kind, seed] => match (generate::Kind::named(kind), seed.parse()) {
@@ -66,7 +55,7 @@ fn by_plan(plan: &compare::Plan) -> ExitCode {
     }
 }
 
-fn oracle(with_dump: bool) -> ExitCode {
+fn by_handlers(with_dump: bool) -> ExitCode {
     let run = handlers::run(&input());
     let mut out = text(&run.lines);
     if with_dump {
@@ -82,10 +71,6 @@ fn by_model(with_dump: bool) -> ExitCode {
         out.push_str(&model.dump());
     }
     print(out.as_bytes())
-}
-
-fn text(lines: &[tape::Line]) -> String {
-    lines.iter().map(|line| format!("{line}\n")).collect()
 }
 
 fn input() -> Vec<u8> {

@@ -4,7 +4,6 @@
 use crate::generate::encode;
 use crate::model::{NodeRow, Part, PlacementRow, TabletRow};
 
-#[cfg_attr(not(test), allow(dead_code))]
 pub struct Trial {
     pub name: &'static str,
     pub tape: Vec<u8>,

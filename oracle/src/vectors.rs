@@ -22,8 +22,8 @@ const GENERATED: [(Kind, u64, u64, usize); 6] = [
 const TAPE_ROOM: usize = 65_536;
 const LINE_ROOM: usize = 1_024;
 
-/// Writes `stdin` and `stdout` of the crate `vectors`; README.md has their form.
-pub fn write(directory: &Path) -> io::Result<()> {
+/// The tapes with their names.
+pub fn list() -> Vec<(String, Vec<u8>)> {
     let mut list: Vec<(String, Vec<u8>)> = trials()
         .into_iter()
         .map(|trial| (trial.name.to_string(), trial.tape))
@@ -35,10 +35,15 @@ pub fn write(directory: &Path) -> io::Result<()> {
             list.push((format!("{} {seed}", kind.name()), parts.bytes()));
         }
     }
+    list
+}
+
+/// Writes `stdin` and `stdout` of the crate `vectors`; README.md has their form.
+pub fn write(directory: &Path) -> io::Result<()> {
     let mut tapes = Vec::new();
     let mut expected = String::new();
     let mut coverage = Coverage::default();
-    for (name, tape) in list {
+    for (name, tape) in list() {
         let run = handlers::run(&tape);
         if tape.len() > TAPE_ROOM || run.lines.len() > LINE_ROOM {
             return Err(io::Error::other(format!("{name} is too long")));
