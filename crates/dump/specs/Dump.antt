@@ -277,6 +277,10 @@ pickLine p =
 
 -- ---- the dump
 
+-- room for every line: the longest, a placement line, has at most 811 bytes
+abbrev pub lineRoom : ℕ
+lineRoom = 1024
+
 abbrev pub nodeLines : Store → List (List ℕ)
 nodeLines s = map nodeLine (viewNodes (s .directory .nodes))
 

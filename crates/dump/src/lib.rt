@@ -6,19 +6,20 @@ ghost use lib.ListN.{length, getD};
 ghost use Rattle.lines.specs.Lines.{Appended};
 ghost use Rattle.metadata.specs.Model.{viewNodes, viewTables, viewTablets, viewPlacements, viewRetirements};
 ghost use Rattle.dump.specs.Dump.{
-    nameLine,
-    marksLine,
-    nextField,
-    nextLine,
-    pickedText,
-    pickLine,
-    fromMarks,
-    fromRetired,
-    fromPlacements,
-    fromTablets,
-    fromTables,
-    fromNodes,
-    dumpLines,
+  nameLine,
+  marksLine,
+  nextField,
+  nextLine,
+  pickedText,
+  pickLine,
+  lineRoom,
+  fromMarks,
+  fromRetired,
+  fromPlacements,
+  fromTablets,
+  fromTables,
+  fromNodes,
+  dumpLines,
 };
 use labels::select_initial_placement;
 use lines::put_byte;
@@ -58,7 +59,7 @@ use tablets::is_complete;
 mod pieces;
 mod row_lines;
 
-// Room for every line: the longest, a placement, has at most 811 bytes.
+// Room for every line: the longest, a placement line, has at most 811 bytes. specs/Dump.antt names it once more.
 pub const LINE_ROOM: usize = 1024;
 
 fn put_cluster(out: &mut [u8], at: usize, t: OptionalName) -> usize
@@ -75,7 +76,13 @@ fn put_marks(out: &mut [u8], at: usize, m: MetadataAllocatorState) -> usize
     ensures { λ r. ⌜ (Appended (marksLine m) (now (out .entry)) at (now (out .exit)) r) × (r ≤ at + 90) ⌝ }
 {
     let word = put_word(out, at, b"marks");
-    let ids = put_three(out, word, m.max_table_id, m.max_tablet_id, m.max_raft_group_id);
+    let ids = put_three(
+        out,
+        word,
+        m.max_table_id,
+        m.max_tablet_id,
+        m.max_raft_group_id,
+    );
     let replica = put_field(out, ids, m.max_replica_id);
     put_byte(out, replica, 10)
 }
@@ -165,7 +172,7 @@ fn retirements_used(t: Retirements) -> usize
 // ---- the lines from each table on: line k of them
 
 fn put_from_marks(out: &mut [u8], s: Store, k: usize) -> usize
-    requires { ⌜ 1024 ≤ length (now out) ⌝ }
+    requires { ⌜ lineRoom ≤ length (now out) ⌝ }
     ensures { λ r. ⌜ Appended (getD (fromMarks s) k []) (now (out .entry)) 0 (now (out .exit)) r ⌝ }
 {
     let catalog = s.catalog;
@@ -183,7 +190,7 @@ fn put_from_marks(out: &mut [u8], s: Store, k: usize) -> usize
 }
 
 fn put_from_retired(out: &mut [u8], s: Store, k: usize) -> usize
-    requires { ⌜ 1024 ≤ length (now out) ⌝ }
+    requires { ⌜ lineRoom ≤ length (now out) ⌝ }
     ensures { λ r. ⌜ Appended (getD (fromRetired s) k []) (now (out .entry)) 0 (now (out .exit)) r ⌝ }
 {
     let catalog = s.catalog;
@@ -196,7 +203,7 @@ fn put_from_retired(out: &mut [u8], s: Store, k: usize) -> usize
 }
 
 fn put_from_placements(out: &mut [u8], s: Store, k: usize) -> usize
-    requires { ⌜ 1024 ≤ length (now out) ⌝ }
+    requires { ⌜ lineRoom ≤ length (now out) ⌝ }
     ensures { λ r. ⌜ Appended (getD (fromPlacements s) k []) (now (out .entry)) 0 (now (out .exit)) r ⌝ }
 {
     let catalog = s.catalog;
@@ -209,7 +216,7 @@ fn put_from_placements(out: &mut [u8], s: Store, k: usize) -> usize
 }
 
 fn put_from_tablets(out: &mut [u8], s: Store, k: usize) -> usize
-    requires { ⌜ 1024 ≤ length (now out) ⌝ }
+    requires { ⌜ lineRoom ≤ length (now out) ⌝ }
     ensures { λ r. ⌜ Appended (getD (fromTablets s) k []) (now (out .entry)) 0 (now (out .exit)) r ⌝ }
 {
     let catalog = s.catalog;
@@ -222,7 +229,7 @@ fn put_from_tablets(out: &mut [u8], s: Store, k: usize) -> usize
 }
 
 fn put_from_tables(out: &mut [u8], s: Store, k: usize) -> usize
-    requires { ⌜ 1024 ≤ length (now out) ⌝ }
+    requires { ⌜ lineRoom ≤ length (now out) ⌝ }
     ensures { λ r. ⌜ Appended (getD (fromTables s) k []) (now (out .entry)) 0 (now (out .exit)) r ⌝ }
 {
     let catalog = s.catalog;
@@ -237,7 +244,7 @@ fn put_from_tables(out: &mut [u8], s: Store, k: usize) -> usize
 }
 
 fn put_from_nodes(out: &mut [u8], s: Store, k: usize) -> usize
-    requires { ⌜ 1024 ≤ length (now out) ⌝ }
+    requires { ⌜ lineRoom ≤ length (now out) ⌝ }
     ensures { λ r. ⌜ Appended (getD (fromNodes s) k []) (now (out .entry)) 0 (now (out .exit)) r ⌝ }
 {
     let directory = s.directory;
@@ -251,7 +258,7 @@ fn put_from_nodes(out: &mut [u8], s: Store, k: usize) -> usize
 
 // Line k of the dump; nothing past the last. A program prints the dump by k = 0, 1, .. until the result is 0.
 pub fn put_dump_line(out: &mut [u8], s: Store, k: usize) -> usize
-    requires { ⌜ 1024 ≤ length (now out) ⌝ }
+    requires { ⌜ lineRoom ≤ length (now out) ⌝ }
     ensures { λ r. ⌜ Appended (getD (dumpLines s) k []) (now (out .entry)) 0 (now (out .exit)) r ⌝ }
 {
     if k == 0 {

@@ -1,22 +1,20 @@
 // Pieces of a line: words, numbers and texts. Each function puts its piece at a place and gives the place behind it.
 ghost use mathlib.Core.Path.{_≡_};
-ghost use mathlib.Core.Bool.{cond};
-ghost use mathlib.Core.List.{_∷_, []};
 ghost use Prim.Native.Nat.{_+_, _*_, _≤_, _<_, min};
 ghost use lib.ListN.{length};
 ghost use Rattle.lines.specs.Lines.{Appended};
 ghost use Rattle.dump.specs.Dump.{
-    each,
-    number,
-    threeNumbers,
-    hexDigit,
-    hexPair,
-    textField,
-    nameField,
-    labelField,
-    keyField,
-    optionalName,
-    optionalLabel,
+  each,
+  number,
+  threeNumbers,
+  hexDigit,
+  hexPair,
+  textField,
+  nameField,
+  labelField,
+  keyField,
+  optionalName,
+  optionalLabel,
 };
 use lines::put_byte;
 use lines::put_number;

@@ -3,22 +3,22 @@ ghost use Prim.Native.Nat.{_+_, _≤_};
 ghost use lib.ListN.{length, take};
 ghost use Rattle.lines.specs.Lines.{Appended};
 ghost use Rattle.dump.specs.Dump.{
-    each,
-    endpoints,
-    nodeLabels,
-    nodeLine,
-    completeness,
-    tableLine,
-    partitionText,
-    tabletLine,
-    replicaText,
-    nodeNumber,
-    minimaText,
-    policyText,
-    replicasText,
-    leadersText,
-    placementLine,
-    retiredLine,
+  each,
+  endpoints,
+  nodeLabels,
+  nodeLine,
+  completeness,
+  tableLine,
+  partitionText,
+  tabletLine,
+  replicaText,
+  nodeNumber,
+  minimaText,
+  policyText,
+  replicasText,
+  leadersText,
+  placementLine,
+  retiredLine,
 };
 use crate::pieces::put_field;
 use crate::pieces::put_key;

@@ -1,3 +1,4 @@
+-- `dump::nodes_used` meets its contract. Assumes nothing.
 use borrow.Author.Needs.{needs}
 use Rattle.laws.proofs.Rows.{length-mapped}
 use Rattle.dump.proofs.Places.{used-long}

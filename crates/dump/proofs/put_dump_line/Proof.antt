@@ -1,39 +1,29 @@
-use Rattle.dump.proofs.Places.{behind-put}
-use Rattle.dump.specs.Dump.{fromNodes, dumpLines}
+-- `dump::put_dump_line` meets its contract. Assumes nothing.
 use borrow.Author.Needs.{needs}
+use Rattle.dump.specs.Dump.{fromNodes, dumpLines}
+use Rattle.dump.proofs.Places.{behind-put}
 use Rattle.dump.proofs.put_dump_line.Statement.{statement}
 use Rattle.dump.proofs.put_dump_line.Tie as tie
-use Rattle.dump.proofs.put_dump_line.Reads as reads
-use Rattle.dump.proofs.put_dump_line.Lts as lts
-use Rattle.dump.proofs.put_cluster.Reads as put-cluster-reads
-use Rattle.dump.proofs.put_from_nodes.Reads as put-from-nodes-reads
 
--- src/lib.rt:220:9
 put-cluster-requires : tie.Need-put-cluster-requires
 put-cluster-requires c κs = search needs
 
--- src/lib.rt:220:9
 same-length : tie.Need-same-length
 same-length c = search needs
 
--- src/lib.rt:220:9
 returns : tie.Need-returns
 unfolding dumpLines
 returns c = rw (c .before .before .before .before .before .if1 .taken) (c .before .before .put-cluster .ensures .0)
 
--- src/lib.rt:222:28
 sub-put-from-nodes : tie.Need-sub-put-from-nodes
 sub-put-from-nodes c = search needs
 
--- src/lib.rt:222:5
 put-from-nodes-requires : tie.Need-put-from-nodes-requires
 put-from-nodes-requires c κs = search needs
 
--- src/lib.rt:214:1
 same-length-2 : tie.Need-same-length-2
 same-length-2 c = search needs
 
--- src/lib.rt:214:1
 returns-2 : tie.Need-returns-2
 unfolding dumpLines
 returns-2 c = behind-put _ (fromNodes (c .before .before .before .before .before .before .args .s)) _ (c .before .before .before .before .if1 .left) (c .before .before .put-from-nodes .ensures)

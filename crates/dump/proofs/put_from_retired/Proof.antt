@@ -1,46 +1,33 @@
-use Rattle.metadata.specs.Tables.{zeroRetirement}
-use Rattle.dump.proofs.Places.{row-put, later-put}
-use Rattle.dump.specs.Dump.{retiredLine, fromMarks, fromRetired}
+-- `dump::put_from_retired` meets its contract. Assumes nothing.
 use borrow.Author.Needs.{needs}
+use Rattle.metadata.specs.Tables.{zeroRetirement}
+use Rattle.dump.specs.Dump.{retiredLine, fromMarks, fromRetired}
+use Rattle.dump.proofs.Places.{row-put, later-put}
 use Rattle.dump.proofs.put_from_retired.Statement.{statement}
 use Rattle.dump.proofs.put_from_retired.Tie as tie
-use Rattle.dump.proofs.put_from_retired.Reads as reads
-use Rattle.dump.proofs.put_from_retired.Lts as lts
-use Rattle.dump.proofs.retirements_used.Reads as retirements-used-reads
-use Rattle.dump.proofs.put_from_marks.Reads as put-from-marks-reads
-use Rattle.dump.proofs.row_lines.put_retired.Reads as put-retired-reads
-use Rattle.rows.proofs.retirements.retirement_at.Reads as retirement-at-reads
 
--- src/lib.rt:152:9
 retirements-used-requires : tie.Need-retirements-used-requires
 retirements-used-requires c κs = search needs
 
--- src/lib.rt:154:36
 retirement-at-requires : tie.Need-retirement-at-requires
 retirement-at-requires c κs = search needs
 
--- src/lib.rt:154:9
 put-retired-requires : tie.Need-put-retired-requires
 put-retired-requires c κs = search needs
 
--- src/lib.rt:154:9
 same-length : tie.Need-same-length
 same-length c = search needs
 
--- src/lib.rt:154:9
 returns : tie.Need-returns
 unfolding fromRetired
 returns c = row-put retiredLine (c .before .before .before .before .before .before .before .before .before .before .args .s .catalog .retirements .rows) (c .before .before .before .before .before .before .before .before .before .before .args .s .catalog .retirements .count) _ (c .before .before .before .before .before .before .before .before .before .before .args .k) (fromMarks (c .before .before .before .before .before .before .before .before .before .before .args .s)) (c .before .before .before .before .before .before .retirements-used .ensures) zeroRetirement _ (c .before .before .before .before .before .if1 .taken) (c .before .before .before .retirement-at .ensures) (c .before .before .put-retired .ensures .0)
 
--- src/lib.rt:156:5
 put-from-marks-requires : tie.Need-put-from-marks-requires
 put-from-marks-requires c κs = search needs
 
--- src/lib.rt:146:1
 same-length-2 : tie.Need-same-length-2
 same-length-2 c = search needs
 
--- src/lib.rt:146:1
 returns-2 : tie.Need-returns-2
 unfolding fromRetired
 returns-2 c = later-put retiredLine (c .before .before .before .before .before .before .before .before .before .args .s .catalog .retirements .rows) (c .before .before .before .before .before .before .before .before .before .args .s .catalog .retirements .count) _ (c .before .before .before .before .before .before .before .before .before .args .k) (fromMarks (c .before .before .before .before .before .before .before .before .before .args .s)) (c .before .before .before .before .before .retirements-used .ensures) (c .before .before .before .before .if1 .left) (c .before .before .put-from-marks .ensures)

@@ -1,71 +1,51 @@
+-- `dump::put_pick` meets its contract. Assumes nothing.
 use borrow.Author.Tests.{eq-eqb, ne-eqb}
-use Rattle.dump.proofs.Chains.{chain3, chain5}
-use Rattle.dump.specs.Dump.{pickLine}
 use borrow.Author.Needs.{needs}
+use Rattle.dump.specs.Dump.{pickLine}
+use Rattle.dump.proofs.Chains.{chain3, chain5}
 use Rattle.dump.proofs.put_pick.Statement.{statement}
 use Rattle.dump.proofs.put_pick.Tie as tie
-use Rattle.dump.proofs.put_pick.Reads as reads
-use Rattle.dump.proofs.put_pick.Lts as lts
-use Rattle.dump.proofs.pieces.put_field.Reads as put-field-reads
-use Rattle.dump.proofs.pieces.put_word.Reads as put-word-reads
-use Rattle.dump.proofs.put_picked.Reads as put-picked-reads
-use Rattle.dump.proofs.row_lines.put_policy.Reads as put-policy-reads
-use Rattle.lines.proofs.put_byte.Reads as put-byte-reads
 
--- src/lib.rt:114:34
 slice-aggregate-put-word : tie.Need-slice-aggregate-put-word
 slice-aggregate-put-word c = search needs
 
--- src/lib.rt:114:9
 put-word-requires : tie.Need-put-word-requires
 put-word-requires c κs = search needs
 
--- src/lib.rt:116:40
 slice-aggregate-put-word-2 : tie.Need-slice-aggregate-put-word-2
 slice-aggregate-put-word-2 c = search needs
 
--- src/lib.rt:116:13
 put-word-requires-2 : tie.Need-put-word-requires-2
 put-word-requires-2 c κs = search needs
 
--- src/lib.rt:117:9
 put-byte-requires : tie.Need-put-byte-requires
 put-byte-requires c κs = search needs
 
--- src/lib.rt:117:9
 same-length : tie.Need-same-length
 same-length c = search needs
 
--- src/lib.rt:117:9
 returns : tie.Need-returns
 unfolding pickLine
 returns c = (rw (eq-eqb _ _ (c .before .before .before .before .before .before .before .before .before .if1 .taken)) (let p = chain3 (c .before .before .before .before .before .before .before .before .before .before .before .before .before .put-word .ensures .0) (c .before .before .before .before .before .before .put-word2 .ensures .0) (c .before .before .put-byte .ensures) in p), search needs)
 
--- src/lib.rt:119:9
 put-picked-requires : tie.Need-put-picked-requires
 put-picked-requires c κs = search needs
 
--- src/lib.rt:121:9
 put-policy-requires : tie.Need-put-policy-requires
 put-policy-requires c κs = search needs
 
--- src/lib.rt:122:42
 cast-put-field : tie.Need-cast-put-field
 cast-put-field c = search needs
 
--- src/lib.rt:122:9
 put-field-requires : tie.Need-put-field-requires
 put-field-requires c κs = search needs
 
--- src/lib.rt:123:5
 put-byte-requires-2 : tie.Need-put-byte-requires-2
 put-byte-requires-2 c κs = search needs
 
--- src/lib.rt:110:1
 same-length-2 : tie.Need-same-length-2
 same-length-2 c = search needs
 
--- src/lib.rt:110:1
 returns-2 : tie.Need-returns-2
 unfolding pickLine
 returns-2 c = (rw (ne-eqb _ _ (c .before .before .before .before .before .before .before .before .before .before .before .before .before .before .before .before .before .before .if1 .left)) (let p = chain5 (c .before .before .before .before .before .before .before .before .before .before .before .before .before .before .before .before .before .before .before .before .before .before .put-word .ensures .0) (c .before .before .before .before .before .before .before .before .before .before .before .before .before .before .before .before .put-picked .ensures .0) (c .before .before .before .before .before .before .before .before .before .before .before .put-policy .ensures .0) (c .before .before .before .before .before .before .put-field .ensures .0) (c .before .before .put-byte2 .ensures) in p), search needs)

@@ -1,13 +1,10 @@
+-- `dump::put_picked` meets its contract. Assumes nothing.
 use Prim.Native.Nat.{_-_}
+use borrow.Author.Needs.{needs}
 use Rattle.dump.specs.Dump.{nodeNumber, pickedText}
 use Rattle.dump.proofs.Loops.{Putting, start-used, more, putting, ended-used, used-low}
-use borrow.Author.Needs.{needs}
 use Rattle.dump.proofs.put_picked.Statement.{statement}
 use Rattle.dump.proofs.put_picked.Tie as tie
-use Rattle.dump.proofs.put_picked.Reads as reads
-use Rattle.dump.proofs.put_picked.Lts as lts
-use Rattle.dump.proofs.pieces.put_field.Reads as put-field-reads
-use Rattle.dump.proofs.pieces.used.Reads as used-reads
 
 abbrev Inv-loop : tie.InvT-loop
 Inv-loop out₀ at ids n next₀ i₀ out next i = Putting nodeNumber 21 n ids out₀ at i out next
@@ -15,47 +12,36 @@ Inv-loop out₀ at ids n next₀ i₀ out next i = Putting nodeNumber 21 n ids o
 abbrev μ-loop : tie.MeasureT-loop
 μ-loop out₀ at ids n next₀ i₀ out next i = n - i
 
--- src/lib.rt:100:18
 cast-used : tie.Need-cast-used Inv-loop μ-loop
 cast-used c = search needs
 
--- src/lib.rt:100:9
 used-requires : tie.Need-used-requires Inv-loop μ-loop
 used-requires c κs = search needs
 
--- src/lib.rt:103:5
 loop-holds : tie.Need-loop-holds Inv-loop μ-loop
 loop-holds c = search (start-used, putting)
 
--- src/lib.rt:104:37
 mul-put-field : tie.Need-mul-put-field Inv-loop μ-loop
 mul-put-field c = search putting
 
--- src/lib.rt:104:37
 element-copy-out-put-field : tie.Need-element-copy-out-put-field Inv-loop μ-loop
 element-copy-out-put-field c = search putting
 
--- src/lib.rt:104:9
 put-field-requires : tie.Need-put-field-requires Inv-loop μ-loop
 put-field-requires c κs = search putting
 
--- src/lib.rt:105:9
 add-i : tie.Need-add-i Inv-loop μ-loop
 add-i c = search needs
 
--- src/lib.rt:103:5
 loop-less : tie.Need-loop-less Inv-loop μ-loop
 loop-less c = search needs
 
--- src/lib.rt:103:5
 loop-again : tie.Need-loop-again Inv-loop μ-loop
 loop-again c = more _ (c .before .before .before .before .before .loop .inv) (c .before .before .before .before .loop-test .taken) (c .before .before .put-field .ensures .0) (c .before .before .put-field .ensures .1)
 
--- src/lib.rt:95:1
 same-length : tie.Need-same-length Inv-loop μ-loop
 same-length c = search needs
 
--- src/lib.rt:95:1
 returns : tie.Need-returns Inv-loop μ-loop
 unfolding pickedText
 returns c = search (ended-used, used-low, putting)

@@ -1,23 +1,18 @@
+-- `dump::pieces::digit` meets its contract. Assumes nothing.
 use borrow.Author.Needs.{needs}
 use borrow.Author.Tests.{lt-ltb, le-ltb}
 use Rattle.dump.proofs.pieces.digit.Statement.{statement}
 use Rattle.dump.proofs.pieces.digit.Tie as tie
-use Rattle.dump.proofs.pieces.digit.Reads as reads
-use Rattle.dump.proofs.pieces.digit.Lts as lts
 
--- src/pieces.rt:72:17
 add-result : tie.Need-add-result
 add-result c = search needs
 
--- src/pieces.rt:72:33
 add-result-2 : tie.Need-add-result-2
 add-result-2 c = search needs
 
--- src/pieces.rt:68:1
 returns : tie.Need-returns
 returns c = rw (lt-ltb _ _ (c .if1 .taken))
 
--- src/pieces.rt:68:1
 returns-2 : tie.Need-returns-2
 returns-2 c = rw (le-ltb _ _ (c .if1 .left))
 

@@ -1,33 +1,24 @@
-use Rattle.dump.proofs.Chains.{hex-put}
+-- `dump::pieces::put_hex` meets its contract. Assumes nothing.
 use borrow.Author.Needs.{needs}
+use Rattle.dump.proofs.Chains.{hex-put}
 use Rattle.dump.proofs.pieces.put_hex.Statement.{statement}
 use Rattle.dump.proofs.pieces.put_hex.Tie as tie
-use Rattle.dump.proofs.pieces.put_hex.Reads as reads
-use Rattle.dump.proofs.pieces.put_hex.Lts as lts
-use Rattle.dump.proofs.pieces.digit.Reads as digit-reads
-use Rattle.lines.proofs.put_byte.Reads as put-byte-reads
 
--- src/pieces.rt:79:34
 digit-requires : tie.Need-digit-requires
 digit-requires c κs = search needs
 
--- src/pieces.rt:79:9
 put-byte-requires : tie.Need-put-byte-requires
 put-byte-requires c κs = search needs
 
--- src/pieces.rt:80:25
 digit-requires-2 : tie.Need-digit-requires-2
 digit-requires-2 c κs = search needs
 
--- src/pieces.rt:80:5
 put-byte-requires-2 : tie.Need-put-byte-requires-2
 put-byte-requires-2 c κs = search needs
 
--- src/pieces.rt:75:1
 same-length : tie.Need-same-length
 same-length c = search needs
 
--- src/pieces.rt:75:1
 returns : tie.Need-returns
 returns c = (hex-put (c .before .before .before .before .before .before .before .before .before .before .before .args .b) _ _ (c .before .before .before .before .before .before .before .before .digit .ensures) (c .before .before .before .digit2 .ensures) (c .before .before .before .before .before .before .before .put-byte .ensures) (c .before .before .put-byte2 .ensures), search needs)
 

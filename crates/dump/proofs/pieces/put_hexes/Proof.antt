@@ -1,13 +1,11 @@
+-- `dump::pieces::put_hexes` meets its contract. Assumes nothing.
 use Prim.Native.Nat.{_-_}
 use lib.ListN.{length}
+use borrow.Author.Needs.{needs}
 use Rattle.dump.specs.Dump.{hexPair}
 use Rattle.dump.proofs.Loops.{Putting, start, putting, whole, ended-low}
-use borrow.Author.Needs.{needs}
 use Rattle.dump.proofs.pieces.put_hexes.Statement.{statement}
 use Rattle.dump.proofs.pieces.put_hexes.Tie as tie
-use Rattle.dump.proofs.pieces.put_hexes.Reads as reads
-use Rattle.dump.proofs.pieces.put_hexes.Lts as lts
-use Rattle.dump.proofs.pieces.put_hex.Reads as put-hex-reads
 
 abbrev Inv-loop : tie.InvT-loop
 Inv-loop out₀ at text next₀ i₀ out next i = Putting hexPair 2 (length text) text out₀ at i out next
@@ -15,35 +13,27 @@ Inv-loop out₀ at text next₀ i₀ out next i = Putting hexPair 2 (length text
 abbrev μ-loop : tie.MeasureT-loop
 μ-loop out₀ at text next₀ i₀ out next i = length text - i
 
--- src/pieces.rt:89:5
 loop-holds : tie.Need-loop-holds Inv-loop μ-loop
 loop-holds c = search (start, putting)
 
--- src/pieces.rt:90:35
 shared-slice-read-put-hex : tie.Need-shared-slice-read-put-hex Inv-loop μ-loop
 shared-slice-read-put-hex c = search needs
 
--- src/pieces.rt:90:9
 put-hex-requires : tie.Need-put-hex-requires Inv-loop μ-loop
 put-hex-requires c κs = search putting
 
--- src/pieces.rt:91:9
 add-i : tie.Need-add-i Inv-loop μ-loop
 add-i c = search needs
 
--- src/pieces.rt:89:5
 loop-less : tie.Need-loop-less Inv-loop μ-loop
 loop-less c = search needs
 
--- src/pieces.rt:89:5
 loop-again : tie.Need-loop-again Inv-loop μ-loop
 loop-again c = search putting
 
--- src/pieces.rt:83:1
 same-length : tie.Need-same-length Inv-loop μ-loop
 same-length c = search needs
 
--- src/pieces.rt:83:1
 returns : tie.Need-returns Inv-loop μ-loop
 returns c = search (whole, ended-low, putting)
 

@@ -1,36 +1,26 @@
+-- `dump::pieces::put_optional_label` meets its contract. Assumes nothing.
 use borrow.Author.Needs.{needs}
 use Rattle.dump.proofs.pieces.put_optional_label.Statement.{statement}
 use Rattle.dump.proofs.pieces.put_optional_label.Tie as tie
-use Rattle.dump.proofs.pieces.put_optional_label.Reads as reads
-use Rattle.dump.proofs.pieces.put_optional_label.Lts as lts
-use Rattle.dump.proofs.pieces.put_label.Reads as put-label-reads
-use Rattle.dump.proofs.pieces.put_word.Reads as put-word-reads
 
--- src/pieces.rt:145:9
 put-label-requires : tie.Need-put-label-requires
 put-label-requires c κs = search needs
 
--- src/pieces.rt:145:9
 same-length : tie.Need-same-length
 same-length c = search needs
 
--- src/pieces.rt:145:9
 returns : tie.Need-returns
 returns c = (rw (c .before .before .before .before .if1 .taken) (c .before .before .put-label .ensures .0), search needs)
 
--- src/pieces.rt:147:23
 slice-aggregate-put-word : tie.Need-slice-aggregate-put-word
 slice-aggregate-put-word c = search needs
 
--- src/pieces.rt:147:5
 put-word-requires : tie.Need-put-word-requires
 put-word-requires c κs = search needs
 
--- src/pieces.rt:140:1
 same-length-2 : tie.Need-same-length-2
 same-length-2 c = search needs
 
--- src/pieces.rt:140:1
 returns-2 : tie.Need-returns-2
 returns-2 c = (rw (c .before .before .before .before .before .if1 .left) (c .before .before .put-word .ensures .0), search needs)
 

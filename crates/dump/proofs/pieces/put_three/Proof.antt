@@ -1,28 +1,21 @@
+-- `dump::pieces::put_three` meets its contract. Assumes nothing.
 use borrow.Author.Needs.{needs}
 use Rattle.dump.proofs.Chains.{chain3}
 use Rattle.dump.proofs.pieces.put_three.Statement.{statement}
 use Rattle.dump.proofs.pieces.put_three.Tie as tie
-use Rattle.dump.proofs.pieces.put_three.Reads as reads
-use Rattle.dump.proofs.pieces.put_three.Lts as lts
-use Rattle.dump.proofs.pieces.put_field.Reads as put-field-reads
 
--- src/pieces.rt:63:9
 put-field-requires : tie.Need-put-field-requires
 put-field-requires c κs = search needs
 
--- src/pieces.rt:64:9
 put-field-requires-2 : tie.Need-put-field-requires-2
 put-field-requires-2 c κs = search needs
 
--- src/pieces.rt:65:5
 put-field-requires-3 : tie.Need-put-field-requires-3
 put-field-requires-3 c κs = search needs
 
--- src/pieces.rt:59:1
 same-length : tie.Need-same-length
 same-length c = search needs
 
--- src/pieces.rt:59:1
 returns : tie.Need-returns
 returns c = (let p = chain3 (c .before .before .before .before .before .before .before .before .before .before .put-field .ensures .0) (c .before .before .before .before .before .before .put-field2 .ensures .0) (c .before .before .put-field3 .ensures .0) in p, search needs)
 

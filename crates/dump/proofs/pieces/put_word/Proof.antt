@@ -1,13 +1,11 @@
-use native.Mathlib.Omega.{arith}
+-- `dump::pieces::put_word` meets its contract. Assumes nothing.
 use Prim.Native.Nat.{_-_}
+use native.Mathlib.Omega.{arith}
 use lib.ListN.{length}
-use Rattle.dump.proofs.Loops.{Putting, alone, start, more, putting, copied, ended-low}
 use borrow.Author.Needs.{needs}
+use Rattle.dump.proofs.Loops.{Putting, alone, start, more, putting, copied, ended-low}
 use Rattle.dump.proofs.pieces.put_word.Statement.{statement}
 use Rattle.dump.proofs.pieces.put_word.Tie as tie
-use Rattle.dump.proofs.pieces.put_word.Reads as reads
-use Rattle.dump.proofs.pieces.put_word.Lts as lts
-use Rattle.lines.proofs.put_byte.Reads as put-byte-reads
 
 abbrev Inv-loop : tie.InvT-loop
 Inv-loop out₀ at word next₀ i₀ out next i = Putting alone 1 (length word) word out₀ at i out next
@@ -15,35 +13,27 @@ Inv-loop out₀ at word next₀ i₀ out next i = Putting alone 1 (length word) 
 abbrev μ-loop : tie.MeasureT-loop
 μ-loop out₀ at word next₀ i₀ out next i = length word - i
 
--- src/pieces.rt:43:5
 loop-holds : tie.Need-loop-holds Inv-loop μ-loop
 loop-holds c = start (omega arith) (omega arith)
 
--- src/pieces.rt:44:36
 shared-slice-read-put-byte : tie.Need-shared-slice-read-put-byte Inv-loop μ-loop
 shared-slice-read-put-byte c = search needs
 
--- src/pieces.rt:44:9
 put-byte-requires : tie.Need-put-byte-requires Inv-loop μ-loop
 put-byte-requires c κs = search putting
 
--- src/pieces.rt:45:9
 add-i : tie.Need-add-i Inv-loop μ-loop
 add-i c = search needs
 
--- src/pieces.rt:43:5
 loop-less : tie.Need-loop-less Inv-loop μ-loop
 loop-less c = search needs
 
--- src/pieces.rt:43:5
 loop-again : tie.Need-loop-again Inv-loop μ-loop
 loop-again c = more 0 (c .before .before .before .before .before .before .loop .inv) (c .before .before .before .before .before .loop-test .taken) (c .before .before .put-byte .ensures) (omega (arith, c .before .before .put-byte .ensures .place))
 
--- src/pieces.rt:37:1
 same-length : tie.Need-same-length Inv-loop μ-loop
 same-length c = search needs
 
--- src/pieces.rt:37:1
 returns : tie.Need-returns Inv-loop μ-loop
 returns c = search (copied, ended-low, putting)
 

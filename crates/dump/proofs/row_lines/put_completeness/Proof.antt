@@ -1,39 +1,29 @@
+-- `dump::row_lines::put_completeness` meets its contract. Assumes nothing.
 use borrow.Author.Needs.{needs}
 use Rattle.dump.proofs.row_lines.put_completeness.Statement.{statement}
 use Rattle.dump.proofs.row_lines.put_completeness.Tie as tie
-use Rattle.dump.proofs.row_lines.put_completeness.Reads as reads
-use Rattle.dump.proofs.row_lines.put_completeness.Lts as lts
-use Rattle.dump.proofs.pieces.put_word.Reads as put-word-reads
 
--- src/row_lines.rt:82:34
 slice-aggregate-put-word : tie.Need-slice-aggregate-put-word
 slice-aggregate-put-word c = search needs
 
--- src/row_lines.rt:82:9
 put-word-requires : tie.Need-put-word-requires
 put-word-requires c κs = search needs
 
--- src/row_lines.rt:82:9
 same-length : tie.Need-same-length
 same-length c = search needs
 
--- src/row_lines.rt:82:9
 returns : tie.Need-returns
 returns c = (rw (c .before .before .before .before .before .if1 .taken) (c .before .before .put-word .ensures .0), search needs)
 
--- src/row_lines.rt:84:23
 slice-aggregate-put-word-2 : tie.Need-slice-aggregate-put-word-2
 slice-aggregate-put-word-2 c = search needs
 
--- src/row_lines.rt:84:5
 put-word-requires-2 : tie.Need-put-word-requires-2
 put-word-requires-2 c κs = search needs
 
--- src/row_lines.rt:77:1
 same-length-2 : tie.Need-same-length-2
 same-length-2 c = search needs
 
--- src/row_lines.rt:77:1
 returns-2 : tie.Need-returns-2
 returns-2 c = (rw (c .before .before .before .before .before .if1 .left) (c .before .before .put-word2 .ensures .0), search needs)
 

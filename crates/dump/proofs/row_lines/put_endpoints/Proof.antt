@@ -1,33 +1,25 @@
-use Rattle.dump.proofs.Chains.{chain4}
-use Rattle.dump.specs.Dump.{endpoints}
+-- `dump::row_lines::put_endpoints` meets its contract. Assumes nothing.
 use borrow.Author.Needs.{needs}
+use Rattle.dump.specs.Dump.{endpoints}
+use Rattle.dump.proofs.Chains.{chain4}
 use Rattle.dump.proofs.row_lines.put_endpoints.Statement.{statement}
 use Rattle.dump.proofs.row_lines.put_endpoints.Tie as tie
-use Rattle.dump.proofs.row_lines.put_endpoints.Reads as reads
-use Rattle.dump.proofs.row_lines.put_endpoints.Lts as lts
-use Rattle.dump.proofs.pieces.put_name.Reads as put-name-reads
 
--- src/row_lines.rt:48:9
 put-name-requires : tie.Need-put-name-requires
 put-name-requires c κs = search needs
 
--- src/row_lines.rt:49:9
 put-name-requires-2 : tie.Need-put-name-requires-2
 put-name-requires-2 c κs = search needs
 
--- src/row_lines.rt:50:9
 put-name-requires-3 : tie.Need-put-name-requires-3
 put-name-requires-3 c κs = search needs
 
--- src/row_lines.rt:51:5
 put-name-requires-4 : tie.Need-put-name-requires-4
 put-name-requires-4 c κs = search needs
 
--- src/row_lines.rt:44:1
 same-length : tie.Need-same-length
 same-length c = search needs
 
--- src/row_lines.rt:44:1
 returns : tie.Need-returns
 unfolding endpoints
 returns c = (let p = chain4 (c .before .before .before .before .before .before .before .before .before .before .before .before .before .before .put-name .ensures .0) (c .before .before .before .before .before .before .before .before .before .before .put-name2 .ensures .0) (c .before .before .before .before .before .before .put-name3 .ensures .0) (c .before .before .put-name4 .ensures .0) in p, search needs)

@@ -1,34 +1,25 @@
-use Rattle.dump.proofs.Chains.{chain4}
-use Rattle.dump.specs.Dump.{nodeLabels}
+-- `dump::row_lines::put_labels` meets its contract. Assumes nothing.
 use borrow.Author.Needs.{needs}
+use Rattle.dump.specs.Dump.{nodeLabels}
+use Rattle.dump.proofs.Chains.{chain4}
 use Rattle.dump.proofs.row_lines.put_labels.Statement.{statement}
 use Rattle.dump.proofs.row_lines.put_labels.Tie as tie
-use Rattle.dump.proofs.row_lines.put_labels.Reads as reads
-use Rattle.dump.proofs.row_lines.put_labels.Lts as lts
-use Rattle.dump.proofs.pieces.put_label.Reads as put-label-reads
-use Rattle.dump.proofs.pieces.put_optional_label.Reads as put-optional-label-reads
 
--- src/row_lines.rt:58:9
 put-optional-label-requires : tie.Need-put-optional-label-requires
 put-optional-label-requires c κs = search needs
 
--- src/row_lines.rt:59:9
 put-optional-label-requires-2 : tie.Need-put-optional-label-requires-2
 put-optional-label-requires-2 c κs = search needs
 
--- src/row_lines.rt:60:9
 put-optional-label-requires-3 : tie.Need-put-optional-label-requires-3
 put-optional-label-requires-3 c κs = search needs
 
--- src/row_lines.rt:61:5
 put-label-requires : tie.Need-put-label-requires
 put-label-requires c κs = search needs
 
--- src/row_lines.rt:54:1
 same-length : tie.Need-same-length
 same-length c = search needs
 
--- src/row_lines.rt:54:1
 returns : tie.Need-returns
 unfolding nodeLabels
 returns c = (let p = chain4 (c .before .before .before .before .before .before .before .before .before .before .before .before .before .before .put-optional-label .ensures .0) (c .before .before .before .before .before .before .before .before .before .before .put-optional-label2 .ensures .0) (c .before .before .before .before .before .before .put-optional-label3 .ensures .0) (c .before .before .put-label .ensures .0) in p, search needs)

@@ -1,54 +1,38 @@
+-- `dump::row_lines::put_node` meets its contract. Assumes nothing.
 use native.Mathlib.Omega.{arith}
-use Rattle.dump.proofs.Chains.{chain6}
-use Rattle.dump.specs.Dump.{nodeLine}
 use borrow.Author.Needs.{needs}
+use Rattle.dump.specs.Dump.{nodeLine}
+use Rattle.dump.proofs.Chains.{chain6}
 use Rattle.dump.proofs.row_lines.put_node.Statement.{statement}
 use Rattle.dump.proofs.row_lines.put_node.Tie as tie
-use Rattle.dump.proofs.row_lines.put_node.Reads as reads
-use Rattle.dump.proofs.row_lines.put_node.Lts as lts
-use Rattle.dump.proofs.pieces.put_field.Reads as put-field-reads
-use Rattle.dump.proofs.pieces.put_word.Reads as put-word-reads
-use Rattle.dump.proofs.row_lines.put_endpoints.Reads as put-endpoints-reads
-use Rattle.dump.proofs.row_lines.put_labels.Reads as put-labels-reads
-use Rattle.lines.proofs.put_byte.Reads as put-byte-reads
 
--- src/row_lines.rt:69:34
 slice-aggregate-put-word : tie.Need-slice-aggregate-put-word
 slice-aggregate-put-word c = search needs
 
--- src/row_lines.rt:69:9
 put-word-requires : tie.Need-put-word-requires
 put-word-requires c κs = search needs
 
--- src/row_lines.rt:70:9
 put-field-requires : tie.Need-put-field-requires
 put-field-requires c κs = search needs
 
--- src/row_lines.rt:71:9
 put-endpoints-requires : tie.Need-put-endpoints-requires
 put-endpoints-requires c κs = search needs
 
--- src/row_lines.rt:72:9
 put-labels-requires : tie.Need-put-labels-requires
 put-labels-requires c κs = search needs
 
--- src/row_lines.rt:73:44
 cast-put-field : tie.Need-cast-put-field
 cast-put-field c = search needs
 
--- src/row_lines.rt:73:9
 put-field-requires-2 : tie.Need-put-field-requires-2
 put-field-requires-2 c κs = search needs
 
--- src/row_lines.rt:74:5
 put-byte-requires : tie.Need-put-byte-requires
 put-byte-requires c κs = omega (arith, c .before .before .before .before .before .before .before .before .before .before .before .before .before .before .before .before .before .before .before .before .before .before .before .before .pre, c .before .before .before .before .before .before .before .before .before .before .before .before .before .before .before .before .before .before .before .before .put-word .ensures .1, c .before .before .before .before .before .before .before .before .before .before .before .before .before .before .before .before .before .before .before .before .put-word .ensures .0 .long, c .before .before .before .before .before .before .before .before .before .before .before .before .before .before .before .before .put-field .ensures .1, c .before .before .before .before .before .before .before .before .before .before .before .before .before .before .before .before .put-field .ensures .0 .long, c .before .before .before .before .before .before .before .before .before .before .before .before .put-endpoints .ensures .1, c .before .before .before .before .before .before .before .before .before .before .before .before .put-endpoints .ensures .0 .long, c .before .before .before .before .before .before .before .before .put-labels .ensures .1, c .before .before .before .before .before .before .before .before .put-labels .ensures .0 .long, c .before .before .before .put-field2 .ensures .1, c .before .before .before .put-field2 .ensures .0 .long)
 
--- src/row_lines.rt:65:1
 same-length : tie.Need-same-length
 same-length c = let p = chain6 (c .before .before .before .before .before .before .before .before .before .before .before .before .before .before .before .before .before .before .before .before .before .before .before .put-word .ensures .0) (c .before .before .before .before .before .before .before .before .before .before .before .before .before .before .before .before .before .before .before .put-field .ensures .0) (c .before .before .before .before .before .before .before .before .before .before .before .before .before .before .before .put-endpoints .ensures .0) (c .before .before .before .before .before .before .before .before .before .before .before .put-labels .ensures .0) (c .before .before .before .before .before .before .put-field2 .ensures .0) (c .before .before .put-byte .ensures) in p .long
 
--- src/row_lines.rt:65:1
 returns : tie.Need-returns
 unfolding nodeLine
 returns c = (let p = chain6 (c .before .before .before .before .before .before .before .before .before .before .before .before .before .before .before .before .before .before .before .before .before .before .before .put-word .ensures .0) (c .before .before .before .before .before .before .before .before .before .before .before .before .before .before .before .before .before .before .before .put-field .ensures .0) (c .before .before .before .before .before .before .before .before .before .before .before .before .before .before .before .put-endpoints .ensures .0) (c .before .before .before .before .before .before .before .before .before .before .before .put-labels .ensures .0) (c .before .before .before .before .before .before .put-field2 .ensures .0) (c .before .before .put-byte .ensures) in p, omega (arith, c .before .before .before .before .before .before .before .before .before .before .before .before .before .before .before .before .before .before .before .before .before .before .before .put-word .ensures .1, c .before .before .before .before .before .before .before .before .before .before .before .before .before .before .before .before .before .before .before .before .before .before .before .put-word .ensures .0 .long, c .before .before .before .before .before .before .before .before .before .before .before .before .before .before .before .before .before .before .before .put-field .ensures .1, c .before .before .before .before .before .before .before .before .before .before .before .before .before .before .before .before .before .before .before .put-field .ensures .0 .long, c .before .before .before .before .before .before .before .before .before .before .before .before .before .before .before .put-endpoints .ensures .1, c .before .before .before .before .before .before .before .before .before .before .before .before .before .before .before .put-endpoints .ensures .0 .long, c .before .before .before .before .before .before .before .before .before .before .before .put-labels .ensures .1, c .before .before .before .before .before .before .before .before .before .before .before .put-labels .ensures .0 .long, c .before .before .before .before .before .before .put-field2 .ensures .1, c .before .before .before .before .before .before .put-field2 .ensures .0 .long, c .before .before .put-byte .ensures .place, c .before .before .put-byte .ensures .long))

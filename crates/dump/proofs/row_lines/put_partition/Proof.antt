@@ -1,69 +1,51 @@
+-- `dump::row_lines::put_partition` meets its contract. Assumes nothing.
 use borrow.Author.Tests.{eq-eqb, ne-eqb}
-use Rattle.dump.proofs.Chains.{chain3}
-use Rattle.dump.specs.Dump.{partitionText}
 use borrow.Author.Needs.{needs}
+use Rattle.dump.specs.Dump.{partitionText}
+use Rattle.dump.proofs.Chains.{chain3}
 use Rattle.dump.proofs.row_lines.put_partition.Statement.{statement}
 use Rattle.dump.proofs.row_lines.put_partition.Tie as tie
-use Rattle.dump.proofs.row_lines.put_partition.Reads as reads
-use Rattle.dump.proofs.row_lines.put_partition.Lts as lts
-use Rattle.dump.proofs.pieces.put_field.Reads as put-field-reads
-use Rattle.dump.proofs.pieces.put_key.Reads as put-key-reads
-use Rattle.dump.proofs.pieces.put_word.Reads as put-word-reads
 
--- src/row_lines.rt:103:38
 slice-aggregate-put-word : tie.Need-slice-aggregate-put-word
 slice-aggregate-put-word c = search needs
 
--- src/row_lines.rt:103:13
 put-word-requires : tie.Need-put-word-requires
 put-word-requires c κs = search needs
 
--- src/row_lines.rt:104:43
 cast-put-field : tie.Need-cast-put-field
 cast-put-field c = search needs
 
--- src/row_lines.rt:104:13
 put-field-requires : tie.Need-put-field-requires
 put-field-requires c κs = search needs
 
--- src/row_lines.rt:105:39
 cast-put-field-2 : tie.Need-cast-put-field-2
 cast-put-field-2 c = search needs
 
--- src/row_lines.rt:105:9
 put-field-requires-2 : tie.Need-put-field-requires-2
 put-field-requires-2 c κs = search needs
 
--- src/row_lines.rt:105:9
 same-length : tie.Need-same-length
 same-length c = search needs
 
--- src/row_lines.rt:105:9
 returns : tie.Need-returns
 unfolding partitionText
 returns c = (rw (eq-eqb _ _ (c .before .before .before .before .before .before .before .before .before .before .before .before .before .before .before .if1 .taken)) (let p = chain3 (c .before .before .before .before .before .before .before .before .before .before .before .before .put-word .ensures .0) (c .before .before .before .before .before .before .before .put-field .ensures .0) (c .before .before .put-field2 .ensures .0) in p), search needs)
 
--- src/row_lines.rt:107:35
 slice-aggregate-put-word-2 : tie.Need-slice-aggregate-put-word-2
 slice-aggregate-put-word-2 c = search needs
 
--- src/row_lines.rt:107:9
 put-word-requires-2 : tie.Need-put-word-requires-2
 put-word-requires-2 c κs = search needs
 
--- src/row_lines.rt:108:9
 put-key-requires : tie.Need-put-key-requires
 put-key-requires c κs = search needs
 
--- src/row_lines.rt:109:5
 put-key-requires-2 : tie.Need-put-key-requires-2
 put-key-requires-2 c κs = search needs
 
--- src/row_lines.rt:98:1
 same-length-2 : tie.Need-same-length-2
 same-length-2 c = search needs
 
--- src/row_lines.rt:98:1
 returns-2 : tie.Need-returns-2
 unfolding partitionText
 returns-2 c = (rw (ne-eqb _ _ (c .before .before .before .before .before .before .before .before .before .before .before .before .before .if1 .left)) (let p = chain3 (c .before .before .before .before .before .before .before .before .before .before .put-word2 .ensures .0) (c .before .before .before .before .before .before .put-key .ensures .0) (c .before .before .put-key2 .ensures .0) in p), search needs)

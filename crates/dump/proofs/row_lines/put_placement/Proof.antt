@@ -1,36 +1,25 @@
-use Rattle.dump.proofs.Chains.{chain4}
-use Rattle.dump.specs.Dump.{placementLine}
+-- `dump::row_lines::put_placement` meets its contract. Assumes nothing.
 use borrow.Author.Needs.{needs}
+use Rattle.dump.specs.Dump.{placementLine}
+use Rattle.dump.proofs.Chains.{chain4}
 use Rattle.dump.proofs.row_lines.put_placement.Statement.{statement}
 use Rattle.dump.proofs.row_lines.put_placement.Tie as tie
-use Rattle.dump.proofs.row_lines.put_placement.Reads as reads
-use Rattle.dump.proofs.row_lines.put_placement.Lts as lts
-use Rattle.dump.proofs.row_lines.put_leaders.Reads as put-leaders-reads
-use Rattle.dump.proofs.row_lines.put_policy.Reads as put-policy-reads
-use Rattle.dump.proofs.row_lines.put_replicas.Reads as put-replicas-reads
-use Rattle.lines.proofs.put_byte.Reads as put-byte-reads
 
--- src/row_lines.rt:205:9
 put-replicas-requires : tie.Need-put-replicas-requires
 put-replicas-requires c κs = search needs
 
--- src/row_lines.rt:206:9
 put-policy-requires : tie.Need-put-policy-requires
 put-policy-requires c κs = search needs
 
--- src/row_lines.rt:207:9
 put-leaders-requires : tie.Need-put-leaders-requires
 put-leaders-requires c κs = search needs
 
--- src/row_lines.rt:208:5
 put-byte-requires : tie.Need-put-byte-requires
 put-byte-requires c κs = search needs
 
--- src/row_lines.rt:201:1
 same-length : tie.Need-same-length
 same-length c = search needs
 
--- src/row_lines.rt:201:1
 returns : tie.Need-returns
 unfolding placementLine
 returns c = (let p = chain4 (c .before .before .before .before .before .before .before .before .before .before .before .before .before .before .put-replicas .ensures .0) (c .before .before .before .before .before .before .before .before .before .before .put-policy .ensures .0) (c .before .before .before .before .before .before .put-leaders .ensures .0) (c .before .before .put-byte .ensures) in p, search needs)

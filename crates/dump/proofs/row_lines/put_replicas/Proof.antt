@@ -1,47 +1,34 @@
-use Rattle.dump.proofs.Chains.{chain5}
-use Rattle.dump.specs.Dump.{replicasText}
+-- `dump::row_lines::put_replicas` meets its contract. Assumes nothing.
 use borrow.Author.Needs.{needs}
+use Rattle.dump.specs.Dump.{replicasText}
+use Rattle.dump.proofs.Chains.{chain5}
 use Rattle.dump.proofs.row_lines.put_replicas.Statement.{statement}
 use Rattle.dump.proofs.row_lines.put_replicas.Tie as tie
-use Rattle.dump.proofs.row_lines.put_replicas.Reads as reads
-use Rattle.dump.proofs.row_lines.put_replicas.Lts as lts
-use Rattle.dump.proofs.pieces.put_field.Reads as put-field-reads
-use Rattle.dump.proofs.pieces.put_word.Reads as put-word-reads
-use Rattle.dump.proofs.row_lines.put_places.Reads as put-places-reads
 
--- src/row_lines.rt:154:34
 slice-aggregate-put-word : tie.Need-slice-aggregate-put-word
 slice-aggregate-put-word c = search needs
 
--- src/row_lines.rt:154:9
 put-word-requires : tie.Need-put-word-requires
 put-word-requires c κs = search needs
 
--- src/row_lines.rt:155:9
 put-field-requires : tie.Need-put-field-requires
 put-field-requires c κs = search needs
 
--- src/row_lines.rt:156:9
 put-field-requires-2 : tie.Need-put-field-requires-2
 put-field-requires-2 c κs = search needs
 
--- src/row_lines.rt:157:41
 slice-aggregate-put-word-2 : tie.Need-slice-aggregate-put-word-2
 slice-aggregate-put-word-2 c = search needs
 
--- src/row_lines.rt:157:9
 put-word-requires-2 : tie.Need-put-word-requires-2
 put-word-requires-2 c κs = search needs
 
--- src/row_lines.rt:159:5
 put-places-requires : tie.Need-put-places-requires
 put-places-requires c κs = search needs
 
--- src/row_lines.rt:150:1
 same-length : tie.Need-same-length
 same-length c = search needs
 
--- src/row_lines.rt:150:1
 returns : tie.Need-returns
 unfolding replicasText
 returns c = (let p = chain5 (c .before .before .before .before .before .before .before .before .before .before .before .before .before .before .before .before .before .before .before .before .put-word .ensures .0) (c .before .before .before .before .before .before .before .before .before .before .before .before .before .before .before .before .put-field .ensures .0) (c .before .before .before .before .before .before .before .before .before .before .before .before .put-field2 .ensures .0) (c .before .before .before .before .before .before .before .put-word2 .ensures .0) (c .before .before .put-places .ensures .0) in p, search needs)

@@ -1,39 +1,28 @@
-use Rattle.dump.proofs.Chains.{chain4}
-use Rattle.dump.specs.Dump.{retiredLine}
+-- `dump::row_lines::put_retired` meets its contract. Assumes nothing.
 use borrow.Author.Needs.{needs}
+use Rattle.dump.specs.Dump.{retiredLine}
+use Rattle.dump.proofs.Chains.{chain4}
 use Rattle.dump.proofs.row_lines.put_retired.Statement.{statement}
 use Rattle.dump.proofs.row_lines.put_retired.Tie as tie
-use Rattle.dump.proofs.row_lines.put_retired.Reads as reads
-use Rattle.dump.proofs.row_lines.put_retired.Lts as lts
-use Rattle.dump.proofs.pieces.put_three.Reads as put-three-reads
-use Rattle.dump.proofs.pieces.put_word.Reads as put-word-reads
-use Rattle.lines.proofs.put_byte.Reads as put-byte-reads
 
--- src/row_lines.rt:215:34
 slice-aggregate-put-word : tie.Need-slice-aggregate-put-word
 slice-aggregate-put-word c = search needs
 
--- src/row_lines.rt:215:9
 put-word-requires : tie.Need-put-word-requires
 put-word-requires c κs = search needs
 
--- src/row_lines.rt:217:9
 put-three-requires : tie.Need-put-three-requires
 put-three-requires c κs = search needs
 
--- src/row_lines.rt:219:9
 put-three-requires-2 : tie.Need-put-three-requires-2
 put-three-requires-2 c κs = search needs
 
--- src/row_lines.rt:220:5
 put-byte-requires : tie.Need-put-byte-requires
 put-byte-requires c κs = search needs
 
--- src/row_lines.rt:211:1
 same-length : tie.Need-same-length
 same-length c = search needs
 
--- src/row_lines.rt:211:1
 returns : tie.Need-returns
 unfolding retiredLine
 returns c = (let p = chain4 (c .before .before .before .before .before .before .before .before .before .before .before .before .before .before .put-word .ensures .0) (c .before .before .before .before .before .before .before .before .before .before .put-three .ensures .0) (c .before .before .before .before .before .before .put-three2 .ensures .0) (c .before .before .put-byte .ensures) in p, search needs)
