@@ -5,7 +5,7 @@ use native.Mathlib.Numerals.{add-one}
 use native.Mathlib.Omega.{arith}
 use mathlib.Core.Path.{_≡_, refl, sym, ap, _∙_, subst}
 use mathlib.Core.List.{List, [], _∷_, _++_, append-assoc}
-use lib.ListN.{length, take, drop, getD, length-take, take-append-drop}
+use lib.ListN.{length, take, drop, getD, take-append-drop}
 use lib.Seq.{take-suc, take-nil, take-length}
 use borrow.Author.Needs.{needs}
 use Rattle.laws.proofs.Rows.{length-mapped}

@@ -5,8 +5,7 @@ use mathlib.Core.Path.{_≡_, refl, sym, ap, _∙_, subst}
 use mathlib.Core.List.{List, [], _∷_, _++_, map}
 use lib.ListN.{length, take, getD, length-take, length-map, List·getD-append, List·getD-map, List·getD-eq-default}
 use lib.Seq.{getD-take, getD-append-add}
-use borrow.Author.Needs.{needs}
-use Rattle.laws.proofs.Rows.{length-mapped, get-any}
+use Rattle.laws.proofs.Rows.{get-any}
 use Rattle.lines.specs.Lines.{Appended}
 use Rattle.dump.proofs.Loops.{nothing}
 

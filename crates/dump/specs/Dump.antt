@@ -147,18 +147,23 @@ hexPair b = hexDigit (b / 16) ∷ hexDigit (b % 16) ∷ []
 abbrev pub textField : ℕ → List ℕ → List ℕ
 textField len field = equals ++ each hexPair (take len field)
 
+-- a name: " =6162"
 abbrev pub nameField : Name → List ℕ
 nameField t = textField (t .len) (t .bytes)
 
+-- a label: " =6162"
 abbrev pub labelField : Label → List ℕ
 labelField t = textField (t .len) (t .bytes)
 
+-- a key: " =6162", and " =" for the unbounded one
 abbrev pub keyField : Key → List ℕ
 keyField t = textField (t .len) (t .bytes)
 
+-- a name, or " -"
 abbrev pub optionalName : OptionalName → List ℕ
 optionalName t = cond (t .present) (nameField (t .text)) absent
 
+-- a label, or " -"
 abbrev pub optionalLabel : OptionalLabel → List ℕ
 optionalLabel t = cond (t .present) (labelField (t .text)) absent
 
@@ -202,11 +207,11 @@ tabletLine t =
     ++ partitionText (t .partition)
     ++ lineEnd
 
--- R:N:ROLE
+-- R:N:ROLE, a space before it
 unfoldable pub replicaText : DesiredReplica → List ℕ
 replicaText r = number (r .«replica_id» .0) ++ colon ++ numberText (r .«node_id» .0) ++ colon ++ numberText (r .role)
 
--- N
+-- a node by its id: " 17"
 abbrev pub nodeNumber : NodeId → List ℕ
 nodeNumber n = number (n .0)
 
@@ -252,6 +257,7 @@ unfoldable pub marksLine : MetadataAllocatorState → List ℕ
 marksLine m =
     wordMarks ++ threeNumbers (m .«max_table_id») (m .«max_tablet_id») (m .«max_raft_group_id») ++ number (m .«max_replica_id») ++ lineEnd
 
+-- " 17", or " -" where none is left
 abbrev pub nextField : NextReplicaId → List ℕ
 nextField (Next id) = number (id .0)
 nextField Exhausted = absent
@@ -281,44 +287,54 @@ pickLine p =
 abbrev pub lineRoom : ℕ
 lineRoom = 1024
 
+-- a line for each node
 abbrev pub nodeLines : Store → List (List ℕ)
 nodeLines s = map nodeLine (viewNodes (s .directory .nodes))
 
--- the line of a row of the store's tables
+-- a table's line, with what the store says of its completeness
 abbrev pub tableLineIn : Store → TableRow → List ℕ
 tableLineIn s t = tableLine (isComplete (t .«table_id») (viewTables (s .catalog .tables)) (viewTablets (s .catalog .tablets))) t
 
+-- a line for each table
 abbrev pub tableLines : Store → List (List ℕ)
 tableLines s = map (tableLineIn s) (viewTables (s .catalog .tables))
 
+-- a line for each tablet
 abbrev pub tabletLines : Store → List (List ℕ)
 tabletLines s = map tabletLine (viewTablets (s .catalog .tablets))
 
+-- a line for each placement
 abbrev pub placementLines : Store → List (List ℕ)
 placementLines s = map placementLine (viewPlacements (s .catalog .placements))
 
+-- a line for each retired replica
 abbrev pub retiredLines : Store → List (List ℕ)
 retiredLines s = map retiredLine (viewRetirements (s .catalog .retirements))
 
--- the lines from each table on, to the last
+-- the last three lines: the marks, the next replica and the first choice
 unfoldable pub fromMarks : Store → List (List ℕ)
 fromMarks s = marksLine (s .catalog .marks) ∷ nextLine (s .catalog .marks) ∷ pickLine (selectInitialPlacement (viewNodes (s .directory .nodes))) ∷ []
 
+-- the lines from the retired replicas on
 unfoldable pub fromRetired : Store → List (List ℕ)
 fromRetired s = retiredLines s ++ fromMarks s
 
+-- the lines from the placements on
 unfoldable pub fromPlacements : Store → List (List ℕ)
 fromPlacements s = placementLines s ++ fromRetired s
 
+-- the lines from the tablets on
 unfoldable pub fromTablets : Store → List (List ℕ)
 fromTablets s = tabletLines s ++ fromPlacements s
 
+-- the lines from the tables on
 unfoldable pub fromTables : Store → List (List ℕ)
 fromTables s = tableLines s ++ fromTablets s
 
+-- the lines from the nodes on
 unfoldable pub fromNodes : Store → List (List ℕ)
 fromNodes s = nodeLines s ++ fromTables s
 
--- all lines, from the first to the last: the name, the five tables, the marks, the next replica and the first choice
+-- all lines, from the first to the last: the name, nodes, tables, tablets, placements, retired replicas, and the last three
 unfoldable pub dumpLines : Store → List (List ℕ)
 dumpLines s = nameLine (s .directory .«cluster_id») ∷ fromNodes s

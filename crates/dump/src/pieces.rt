@@ -32,6 +32,7 @@ pub fn used(count: usize, room: usize) -> usize
     if count < room { count } else { room }
 }
 
+// The bytes of a word, as they are.
 pub fn put_word(out: &mut [u8], at: usize, word: &[u8]) -> usize
     requires { ⌜ at + length (now word) ≤ length (now out) ⌝ }
     ensures { λ r. ⌜ (Appended (now (word .entry)) (now (out .entry)) at (now (out .exit)) r) × (r ≤ at + length (now (word .entry))) ⌝ }

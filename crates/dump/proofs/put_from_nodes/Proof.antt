@@ -20,7 +20,7 @@ same-length c = search needs
 
 returns : tie.Need-returns
 unfolding fromNodes
-returns c = row-put nodeLine (c .before .before .before .before .before .before .before .before .before .before .args .s .directory .nodes .rows) (c .before .before .before .before .before .before .before .before .before .before .args .s .directory .nodes .count) _ (c .before .before .before .before .before .before .before .before .before .before .args .k) (fromTables (c .before .before .before .before .before .before .before .before .before .before .args .s)) (c .before .before .before .before .before .before .nodes-used .ensures) zeroNode _ (c .before .before .before .before .before .if1 .taken) (c .before .before .before .node-at .ensures) (c .before .before .put-node .ensures .0)
+returns c = let a = c .before .before .before .before .before .before .before .before .before .before .args in row-put nodeLine (a .s .directory .nodes .rows) (a .s .directory .nodes .count) _ (a .k) (fromTables (a .s)) (c .before .before .before .before .before .before .nodes-used .ensures) zeroNode _ (c .before .before .before .before .before .if1 .taken) (c .before .before .before .node-at .ensures) (c .before .before .put-node .ensures .0)
 
 put-from-tables-requires : tie.Need-put-from-tables-requires
 put-from-tables-requires c κs = search needs
@@ -30,7 +30,7 @@ same-length-2 c = search needs
 
 returns-2 : tie.Need-returns-2
 unfolding fromNodes
-returns-2 c = later-put nodeLine (c .before .before .before .before .before .before .before .before .before .args .s .directory .nodes .rows) (c .before .before .before .before .before .before .before .before .before .args .s .directory .nodes .count) _ (c .before .before .before .before .before .before .before .before .before .args .k) (fromTables (c .before .before .before .before .before .before .before .before .before .args .s)) (c .before .before .before .before .before .nodes-used .ensures) (c .before .before .before .before .if1 .left) (c .before .before .put-from-tables .ensures)
+returns-2 c = let a = c .before .before .before .before .before .before .before .before .before .args in later-put nodeLine (a .s .directory .nodes .rows) (a .s .directory .nodes .count) _ (a .k) (fromTables (a .s)) (c .before .before .before .before .before .nodes-used .ensures) (c .before .before .before .before .if1 .left) (c .before .before .put-from-tables .ensures)
 
 pub put-from-nodes-spec : {M : Type 1} → statement M
 put-from-nodes-spec =

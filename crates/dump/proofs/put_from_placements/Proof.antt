@@ -20,7 +20,7 @@ same-length c = search needs
 
 returns : tie.Need-returns
 unfolding fromPlacements
-returns c = row-put placementLine (c .before .before .before .before .before .before .before .before .before .before .args .s .catalog .placements .rows) (c .before .before .before .before .before .before .before .before .before .before .args .s .catalog .placements .count) _ (c .before .before .before .before .before .before .before .before .before .before .args .k) (fromRetired (c .before .before .before .before .before .before .before .before .before .before .args .s)) (c .before .before .before .before .before .before .placements-used .ensures) zeroPlacement _ (c .before .before .before .before .before .if1 .taken) (c .before .before .before .placement-at .ensures) (c .before .before .put-placement .ensures .0)
+returns c = let a = c .before .before .before .before .before .before .before .before .before .before .args in row-put placementLine (a .s .catalog .placements .rows) (a .s .catalog .placements .count) _ (a .k) (fromRetired (a .s)) (c .before .before .before .before .before .before .placements-used .ensures) zeroPlacement _ (c .before .before .before .before .before .if1 .taken) (c .before .before .before .placement-at .ensures) (c .before .before .put-placement .ensures .0)
 
 put-from-retired-requires : tie.Need-put-from-retired-requires
 put-from-retired-requires c κs = search needs
@@ -30,7 +30,7 @@ same-length-2 c = search needs
 
 returns-2 : tie.Need-returns-2
 unfolding fromPlacements
-returns-2 c = later-put placementLine (c .before .before .before .before .before .before .before .before .before .args .s .catalog .placements .rows) (c .before .before .before .before .before .before .before .before .before .args .s .catalog .placements .count) _ (c .before .before .before .before .before .before .before .before .before .args .k) (fromRetired (c .before .before .before .before .before .before .before .before .before .args .s)) (c .before .before .before .before .before .placements-used .ensures) (c .before .before .before .before .if1 .left) (c .before .before .put-from-retired .ensures)
+returns-2 c = let a = c .before .before .before .before .before .before .before .before .before .args in later-put placementLine (a .s .catalog .placements .rows) (a .s .catalog .placements .count) _ (a .k) (fromRetired (a .s)) (c .before .before .before .before .before .placements-used .ensures) (c .before .before .before .before .if1 .left) (c .before .before .put-from-retired .ensures)
 
 pub put-from-placements-spec : {M : Type 1} → statement M
 put-from-placements-spec =

@@ -20,7 +20,7 @@ same-length c = search needs
 
 returns : tie.Need-returns
 unfolding fromRetired
-returns c = row-put retiredLine (c .before .before .before .before .before .before .before .before .before .before .args .s .catalog .retirements .rows) (c .before .before .before .before .before .before .before .before .before .before .args .s .catalog .retirements .count) _ (c .before .before .before .before .before .before .before .before .before .before .args .k) (fromMarks (c .before .before .before .before .before .before .before .before .before .before .args .s)) (c .before .before .before .before .before .before .retirements-used .ensures) zeroRetirement _ (c .before .before .before .before .before .if1 .taken) (c .before .before .before .retirement-at .ensures) (c .before .before .put-retired .ensures .0)
+returns c = let a = c .before .before .before .before .before .before .before .before .before .before .args in row-put retiredLine (a .s .catalog .retirements .rows) (a .s .catalog .retirements .count) _ (a .k) (fromMarks (a .s)) (c .before .before .before .before .before .before .retirements-used .ensures) zeroRetirement _ (c .before .before .before .before .before .if1 .taken) (c .before .before .before .retirement-at .ensures) (c .before .before .put-retired .ensures .0)
 
 put-from-marks-requires : tie.Need-put-from-marks-requires
 put-from-marks-requires c κs = search needs
@@ -30,7 +30,7 @@ same-length-2 c = search needs
 
 returns-2 : tie.Need-returns-2
 unfolding fromRetired
-returns-2 c = later-put retiredLine (c .before .before .before .before .before .before .before .before .before .args .s .catalog .retirements .rows) (c .before .before .before .before .before .before .before .before .before .args .s .catalog .retirements .count) _ (c .before .before .before .before .before .before .before .before .before .args .k) (fromMarks (c .before .before .before .before .before .before .before .before .before .args .s)) (c .before .before .before .before .before .retirements-used .ensures) (c .before .before .before .before .if1 .left) (c .before .before .put-from-marks .ensures)
+returns-2 c = let a = c .before .before .before .before .before .before .before .before .before .args in later-put retiredLine (a .s .catalog .retirements .rows) (a .s .catalog .retirements .count) _ (a .k) (fromMarks (a .s)) (c .before .before .before .before .before .retirements-used .ensures) (c .before .before .before .before .if1 .left) (c .before .before .put-from-marks .ensures)
 
 pub put-from-retired-spec : {M : Type 1} → statement M
 put-from-retired-spec =

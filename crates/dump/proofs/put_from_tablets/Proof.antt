@@ -20,7 +20,7 @@ same-length c = search needs
 
 returns : tie.Need-returns
 unfolding fromTablets
-returns c = row-put tabletLine (c .before .before .before .before .before .before .before .before .before .before .args .s .catalog .tablets .rows) (c .before .before .before .before .before .before .before .before .before .before .args .s .catalog .tablets .count) _ (c .before .before .before .before .before .before .before .before .before .before .args .k) (fromPlacements (c .before .before .before .before .before .before .before .before .before .before .args .s)) (c .before .before .before .before .before .before .tablets-used .ensures) zeroTablet _ (c .before .before .before .before .before .if1 .taken) (c .before .before .before .tablet-at .ensures) (c .before .before .put-tablet .ensures .0)
+returns c = let a = c .before .before .before .before .before .before .before .before .before .before .args in row-put tabletLine (a .s .catalog .tablets .rows) (a .s .catalog .tablets .count) _ (a .k) (fromPlacements (a .s)) (c .before .before .before .before .before .before .tablets-used .ensures) zeroTablet _ (c .before .before .before .before .before .if1 .taken) (c .before .before .before .tablet-at .ensures) (c .before .before .put-tablet .ensures .0)
 
 put-from-placements-requires : tie.Need-put-from-placements-requires
 put-from-placements-requires c κs = search needs
@@ -30,7 +30,7 @@ same-length-2 c = search needs
 
 returns-2 : tie.Need-returns-2
 unfolding fromTablets
-returns-2 c = later-put tabletLine (c .before .before .before .before .before .before .before .before .before .args .s .catalog .tablets .rows) (c .before .before .before .before .before .before .before .before .before .args .s .catalog .tablets .count) _ (c .before .before .before .before .before .before .before .before .before .args .k) (fromPlacements (c .before .before .before .before .before .before .before .before .before .args .s)) (c .before .before .before .before .before .tablets-used .ensures) (c .before .before .before .before .if1 .left) (c .before .before .put-from-placements .ensures)
+returns-2 c = let a = c .before .before .before .before .before .before .before .before .before .args in later-put tabletLine (a .s .catalog .tablets .rows) (a .s .catalog .tablets .count) _ (a .k) (fromPlacements (a .s)) (c .before .before .before .before .before .tablets-used .ensures) (c .before .before .before .before .if1 .left) (c .before .before .put-from-placements .ensures)
 
 pub put-from-tablets-spec : {M : Type 1} → statement M
 put-from-tablets-spec =
