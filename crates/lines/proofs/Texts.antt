@@ -89,16 +89,14 @@ decimal-long (suc k) n = go (ltb n 10) (decimal-long k (n / 10))
 pub room-behind : (k n : ℕ) (old : List ℕ) (at : ℕ) (mid : List ℕ) (m : ℕ) → at + k ≤ length old → 1 ≤ k → Appended (decimal (k - 1) (n / 10)) old at mid m → m + 1 ≤ length mid
 room-behind k n old at mid m h g a = omega (arith, a .place, a .long, decimal-long (k - 1) (n / 10))
 
--- a number and a byte take at most 21
+-- a number takes at most 20
+pub number-low : (n : ℕ) (old : List ℕ) (at : ℕ) (new : List ℕ) (r : ℕ) → Appended (decimal 20 n) old at new r → r ≤ at + 20
+number-low n old at new r p = omega (arith, p .place, decimal-long 20 n)
+
+-- a number and a byte
 pub field-put : (n b : ℕ) (old : List ℕ) (at : ℕ) (mid : List ℕ) (m : ℕ) (new : List ℕ) (r : ℕ) → Appended (decimal 20 n) old at mid m → Appended (b ∷ []) mid m new r →
     Appended (fieldText n b) old at new r
 field-put n b old at mid m new r p q = joined (decimal 20 n) (b ∷ []) old at mid m new r p q
-
-pub field-low : (n b : ℕ) (old : List ℕ) (at : ℕ) (mid : List ℕ) (m : ℕ) (new : List ℕ) (r : ℕ) → Appended (decimal 20 n) old at mid m → Appended (b ∷ []) mid m new r → r ≤ at + 21
-field-low n b old at mid m new r p q = omega (arith, p .place, q .place, decimal-long 20 n)
-
-pub field-room : (n : ℕ) (old : List ℕ) (at : ℕ) (mid : List ℕ) (m : ℕ) → at + 21 ≤ length old → Appended (decimal 20 n) old at mid m → m + 1 ≤ length mid
-field-room n old at mid m h p = omega (arith, p .place, p .long, decimal-long 20 n)
 
 pub line-put : (line : ℕ) (r : Reported) (o0 o1 o2 o3 o4 o5 : List ℕ) (at n1 n2 n3 n4 n5 w : ℕ) → w ≡ r .number →
     Appended (fieldText line 32) o0 at o1 n1 → Appended (fieldText w 32) o1 n1 o2 n2 →

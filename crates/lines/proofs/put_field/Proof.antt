@@ -1,19 +1,19 @@
 use borrow.Author.Needs.{needs}
-use Rattle.lines.proofs.Texts.{field-room, field-put, field-low}
+use Rattle.lines.proofs.Texts.{field-put}
 use Rattle.lines.proofs.put_field.Statement.{statement}
 use Rattle.lines.proofs.put_field.Tie as tie
 use Rattle.lines.proofs.put_field.Reads as reads
 use Rattle.lines.proofs.put_field.Lts as lts
 use Rattle.lines.proofs.put_byte.Reads as put-byte-reads
-use Rattle.lines.proofs.put_decimal.Reads as put-decimal-reads
+use Rattle.lines.proofs.put_number.Reads as put-number-reads
 
 -- src/lib.rt:34:9
-put-decimal-requires : tie.Need-put-decimal-requires
-put-decimal-requires c κs = search needs
+put-number-requires : tie.Need-put-number-requires
+put-number-requires c κs = search needs
 
 -- src/lib.rt:35:5
 put-byte-requires : tie.Need-put-byte-requires
-put-byte-requires c κs = search (needs, field-room)
+put-byte-requires c κs = search needs
 
 -- src/lib.rt:30:1
 same-length : tie.Need-same-length
@@ -21,7 +21,7 @@ same-length c = search needs
 
 -- src/lib.rt:30:1
 returns : tie.Need-returns
-returns c = search (needs, field-put, field-low)
+returns c = search (needs, field-put)
 
 pub put-field-spec : {M : Type 1} → statement M
-put-field-spec = tie.close (tie.spec put-decimal-requires put-byte-requires same-length returns)
+put-field-spec = tie.close (tie.spec put-number-requires put-byte-requires same-length returns)

@@ -1,0 +1,60 @@
+-- A line by its place among the lines of a table's rows in use and those behind them. Over any type of rows. Assumes nothing.
+use Prim.Native.Nat.{ℕ, zero, suc, _+_, _-_, _≤_, _<_, min}
+use native.Mathlib.Omega.{arith}
+use mathlib.Core.Path.{_≡_, refl, sym, ap, _∙_, subst}
+use mathlib.Core.List.{List, [], _∷_, _++_, map}
+use lib.ListN.{length, take, getD, length-take, length-map, List·getD-append, List·getD-map, List·getD-eq-default}
+use lib.Seq.{getD-take, getD-append-add}
+use Rattle.laws.proofs.Rows.{get-any}
+use Rattle.lines.specs.Lines.{Appended}
+use Rattle.dump.proofs.Loops.{nothing}
+
+-- the rows in use: as many as the count says, and all where it says more
+pub used-long : {A : Type 0} (l : List A) (count room n : ℕ) → length l ≡ room → n ≡ min count room → n ≡ length (take count l)
+used-long l count room n h e = e ∙ ap (min count) (sym h) ∙ sym (length-take count l)
+
+module _ {A : Type 0} (f : A → List ℕ) (rows : List A) (count n k : ℕ) (rest : List (List ℕ)) (e : n ≡ length (take count rows)) where
+  row-at : (d : A) → k < n → f (getD rows k d) ≡ getD (map f (take count rows) ++ rest) k []
+  row-at d h =
+      let b : k < count = omega (arith, length-take count rows) in
+      let c : k < length (map f (take count rows)) = omega (arith, length-map (take count rows) f) in
+      sym
+      (List·getD-append (map f (take count rows)) rest [] k c
+      ∙ get-any (map f (take count rows)) (length (map f (take count rows))) k refl [] (f d) c
+      ∙ List·getD-map f (take count rows) k d
+      ∙ ap f (getD-take count rows k d b))
+
+  -- the line of a row in use
+  pub row-put : (d x : A) {old new : List ℕ} {r : ℕ} → k < n → x ≡ getD rows k d → Appended (f x) old 0 new r → Appended (getD (map f (take count rows) ++ rest) k []) old 0 new r
+  row-put d x {old} {new} {r} h q a = subst (λ (t : List ℕ). Appended t old 0 new r) (ap f q ∙ row-at d h) a
+
+  -- a line behind those of the table
+  pub later-put : {old new : List ℕ} {r : ℕ} → n ≤ k → Appended (getD rest (k - n) []) old 0 new r → Appended (getD (map f (take count rows) ++ rest) k []) old 0 new r
+  later-put {old} {new} {r} h a =
+      let z : length (map f (take count rows)) + (k - n) ≡ k = omega (arith, length-map (take count rows) f) in
+      let q : getD rest (k - n) [] ≡ getD (map f (take count rows) ++ rest) k [] =
+      sym (getD-append-add (map f (take count rows)) rest (k - n) []) ∙ ap (λ (j : ℕ). getD (map f (take count rows) ++ rest) j []) z in
+      subst (λ (t : List ℕ). Appended t old 0 new r) q a
+
+-- ---- lines of their own
+
+module _ (x y z : List ℕ) (k : ℕ) {old : List ℕ} where
+  pub first-put : {new : List ℕ} {r : ℕ} → k ≡ 0 → Appended x old 0 new r → Appended (getD (x ∷ y ∷ z ∷ []) k []) old 0 new r
+  first-put {new} {r} e a = rw e a
+
+  pub second-put : {new : List ℕ} {r : ℕ} → k ≡ 1 → Appended y old 0 new r → Appended (getD (x ∷ y ∷ z ∷ []) k []) old 0 new r
+  second-put {new} {r} e a = rw e a
+
+  pub third-put : {new : List ℕ} {r : ℕ} → k ≡ 2 → Appended z old 0 new r → Appended (getD (x ∷ y ∷ z ∷ []) k []) old 0 new r
+  third-put {new} {r} e a = rw e a
+
+  -- nothing past the last line
+  pub past-put : (k ≡ 0 → ⊥) → (k ≡ 1 → ⊥) → (k ≡ 2 → ⊥) → Appended (getD (x ∷ y ∷ z ∷ []) k []) old 0 old 0
+  past-put a b c = rw (List·getD-eq-default (x ∷ y ∷ z ∷ []) [] {n = k} (omega arith)) (nothing old 0 (omega arith))
+
+-- a line behind the first
+pub behind-put : (x : List ℕ) (l : List (List ℕ)) (k : ℕ) {old new : List ℕ} {r : ℕ} → (k ≡ 0 → ⊥) → Appended (getD l (k - 1) []) old 0 new r → Appended (getD (x ∷ l) k []) old 0 new r
+behind-put x l zero h a = absurd (h refl)
+behind-put x l (suc k) {old} {new} {r} h a =
+    let z : suc k - 1 ≡ k = omega arith in
+    subst (λ (j : ℕ). Appended (getD l j []) old 0 new r) z a
