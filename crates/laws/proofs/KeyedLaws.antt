@@ -61,6 +61,16 @@ module _ {A : Type 0} (T : Keyed A) where
   row-absent d k [] h = refl
   row-absent d k (x ∷ l) h = row-absent-go d k x l (T .eq (T .key x) k) (row-absent d k l) h
 
+  row-either-go : (d e : A) (k : T .Key) (x : A) (l : List A) (t : Bool) → (has T k l ≡ true → row T d k l ≡ row T e k l) →
+      cond t true (has T k l) ≡ true → cond t x (row T d k l) ≡ cond t x (row T e k l)
+  row-either-go d e k x l true ih h = refl
+  row-either-go d e k x l false ih h = ih h
+
+  -- a row that is there does not depend on what stands for none
+  pub row-either : (d e : A) (k : T .Key) (l : List A) → has T k l ≡ true → row T d k l ≡ row T e k l
+  row-either d e k [] h = cc
+  row-either d e k (x ∷ l) h = row-either-go d e k x l (T .eq (T .key x) k) (row-either d e k l) h
+
   row-all-go : (P : A → Type 0) (d : A) (k : T .Key) (x : A) (l : List A) (t : Bool) → P x → (has T k l ≡ true → P (row T d k l)) →
       cond t true (has T k l) ≡ true → P (cond t x (row T d k l))
   row-all-go P d k x l true p ih h = p

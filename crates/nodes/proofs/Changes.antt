@@ -27,7 +27,7 @@ use Rattle.metadata.specs.declared.TabletDescriptor.{TabletDescriptor}
 use Rattle.metadata.specs.declared.DesiredReplicaPlacement.{DesiredReplicaPlacement}
 use Rattle.metadata.proofs.Guards.{passes, lifecycle-moves, registers}
 use Rattle.rows.specs.Results.{under, nodesWith, nodesSet}
-use Rattle.rows.specs.declared.nodes.NodesWith.{NodesWith}
+use Rattle.rows.specs.declared.NodesWith.{NodesWith}
 use Rattle.rows.proofs.Stored.{nodes-packed, nodes-inserted, nodes-replaced}
 
 module _ (nodes : Nodes) (sound : soundTable nodeKey isZeroNode nodeRoom (nodes .count) (nodes .rows) ≡ true) where

@@ -26,12 +26,12 @@ use metadata::TABLET_ROOM;
 use metadata::TabletDescriptor;
 use metadata::Tablets;
 use metadata::is_applied;
+use node_rows::find_node;
+use node_rows::node_at;
+use node_rows::with_node;
+use placement_rows::find_placement;
+use placement_rows::placement_at;
 use records::with_lifecycle;
-use rows::nodes::find_node;
-use rows::nodes::node_at;
-use rows::nodes::with_node;
-use rows::placements::find_placement;
-use rows::placements::placement_at;
 
 // 0 Active, 1 Draining, 2 Decommissioning, 3 Decommissioned, 4 Tombstoned.
 const LIFECYCLES: usize = 5;

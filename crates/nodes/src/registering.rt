@@ -27,12 +27,12 @@ use metadata::OptionalName;
 use metadata::Placements;
 use metadata::Tablets;
 use metadata::is_applied;
+use node_rows::find_node;
+use node_rows::insert_node;
+use node_rows::node_at;
 use records::same_node;
 use records::same_node_directory;
 use records::zero_node;
-use rows::nodes::find_node;
-use rows::nodes::insert_node;
-use rows::nodes::node_at;
 
 // A node's endpoints: raft, snapshot, sql, admin.
 const ENDPOINTS: u8 = 4;

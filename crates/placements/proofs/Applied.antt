@@ -13,7 +13,7 @@ use Rattle.laws.proofs.ListLaws.{cond-true}
 use Rattle.laws.proofs.Lookups.{spot, found-none}
 use Rattle.laws.proofs.Packed.{counted}
 use Rattle.rows.specs.Results.{under, placementsWith, placementsSet}
-use Rattle.rows.specs.declared.placements.PlacementsWith.{PlacementsWith}
+use Rattle.rows.specs.declared.PlacementsWith.{PlacementsWith}
 use Rattle.rows.proofs.Stored.{placements-packed, placements-inserted, placements-replaced}
 use Rattle.metadata.specs.Rooms.{tabletRoom}
 use Rattle.metadata.specs.Marks.{initialMarks}

@@ -11,7 +11,7 @@ use Rattle.laws.specs.declared.Found.the-variants.{At, Nothing}
 use Rattle.laws.specs.Keyed.{has}
 use Rattle.laws.specs.Rows.{findIndex}
 use Rattle.rows.specs.Results.{under, placementsWith, placementsSet}
-use Rattle.rows.specs.declared.placements.PlacementsWith.{PlacementsWith}
+use Rattle.rows.specs.declared.PlacementsWith.{PlacementsWith}
 use Rattle.metadata.specs.Rooms.{tabletRoom}
 use Rattle.metadata.specs.Marks.{markLimit}
 use Rattle.metadata.specs.Answers.{_⊳_, refuse}
@@ -47,7 +47,7 @@ use Rattle.metadata.specs.declared.Tablets.{Tablets}
 use Rattle.metadata.specs.declared.Placements.{Placements}
 use Rattle.metadata.specs.declared.Retirements.{Retirements}
 use Rattle.placements.specs.Copies.{judgeFirstEpoch, judgeNextEpoch, judgeStaying, judgeRoom, placementsPut}
-use Rattle.tablets.proofs.Lookup.{not-there, is-there, no-row, the-row, full-test}
+use Rattle.rows.proofs.Lookup.{not-there, is-there, no-row, the-row, full-test}
 
 -- ---- a replica
 module _ (nodes : Nodes) (retirements : Retirements) (old : DesiredReplicaPlacement) (group : RaftGroupId) (class : OptionalLabel) (r : DesiredReplica)

@@ -23,7 +23,7 @@ use Rattle.metadata.specs.declared.Tablets.{Tablets}
 use Rattle.metadata.specs.declared.Placements.{Placements}
 use Rattle.metadata.specs.declared.Retirements.{Retirements}
 use Rattle.metadata.proofs.AnswerLaws.{stop, go-on, past, here}
-use Rattle.tablets.proofs.Lookup.{not-there, is-there, the-row}
+use Rattle.rows.proofs.Lookup.{not-there, is-there, the-row}
 use Rattle.placements.specs.Copies.{judgeStanding, judgeChange, isStored}
 use Rattle.placements.proofs.Turns.{three-then}
 use Rattle.placements.proofs.Unstored.{row-same}

@@ -36,18 +36,18 @@ use metadata::TABLET_ROOM;
 use metadata::TabletId;
 use metadata::Tablets;
 use metadata::is_applied;
+use node_rows::find_node;
+use node_rows::node_at;
+use placement_rows::find_placement;
+use placement_rows::insert_placement;
+use placement_rows::placement_at;
+use placement_rows::with_placement;
 use records::no_label;
 use records::same_placement;
 use records::zero_node;
 use records::zero_placement;
-use rows::nodes::find_node;
-use rows::nodes::node_at;
-use rows::placements::find_placement;
-use rows::placements::insert_placement;
-use rows::placements::placement_at;
-use rows::placements::with_placement;
-use rows::tablets::find_tablet;
-use rows::tablets::tablet_at;
+use tablet_rows::find_tablet;
+use tablet_rows::tablet_at;
 use tablets::is_replica_retired;
 
 // What the stored placement has under a replica's number.

@@ -10,19 +10,19 @@ use Rattle.metadata.specs.Rooms.{nodeRoom, tableRoom, tabletRoom, retirementRoo
 use Rattle.metadata.specs.Tables.{nodeKey, tableKey, tabletKey, placementKey, retirementKey}
 use Rattle.metadata.specs.declared.NodeDescriptor.{NodeDescriptor}
 use Rattle.metadata.specs.declared.Nodes.{Nodes}
-use Rattle.rows.specs.declared.nodes.NodesWith.{NodesWith}
+use Rattle.rows.specs.declared.NodesWith.{NodesWith}
 use Rattle.metadata.specs.declared.TableRow.{TableRow}
 use Rattle.metadata.specs.declared.Tables.{Tables}
-use Rattle.rows.specs.declared.tables.TablesWith.{TablesWith}
+use Rattle.rows.specs.declared.TablesWith.{TablesWith}
 use Rattle.metadata.specs.declared.TabletDescriptor.{TabletDescriptor}
 use Rattle.metadata.specs.declared.Tablets.{Tablets}
-use Rattle.rows.specs.declared.tablets.TabletsWith.{TabletsWith}
+use Rattle.rows.specs.declared.TabletsWith.{TabletsWith}
 use Rattle.metadata.specs.declared.DesiredReplicaPlacement.{DesiredReplicaPlacement}
 use Rattle.metadata.specs.declared.Placements.{Placements}
-use Rattle.rows.specs.declared.placements.PlacementsWith.{PlacementsWith}
+use Rattle.rows.specs.declared.PlacementsWith.{PlacementsWith}
 use Rattle.metadata.specs.declared.RetiredReplicaLifetime.{RetiredReplicaLifetime}
 use Rattle.metadata.specs.declared.Retirements.{Retirements}
-use Rattle.rows.specs.declared.retirements.RetirementsWith.{RetirementsWith}
+use Rattle.rows.specs.declared.RetirementsWith.{RetirementsWith}
 
 -- the row has this key
 abbrev pub under : {A : Type 0} (T : Keyed A) → T .Key → A → Bool

@@ -1,13 +1,70 @@
-// The functions of the tables, one module for each table.
+// What the five tables share: a crate for each is above this one.
 ghost use mathlib.Core.Path.{_≡_};
 ghost use Rattle.laws.specs.Rows.{orElse};
 use laws::Found;
+use metadata::DesiredReplicaPlacement;
+use metadata::NodeDescriptor;
+use metadata::Nodes;
+use metadata::Placements;
+use metadata::RetiredReplicaLifetime;
+use metadata::Retirements;
+use metadata::Tables;
+use metadata::TabletDescriptor;
+use metadata::Tablets;
 
-pub mod nodes;
-pub mod placements;
-pub mod retirements;
-pub mod tables;
-pub mod tablets;
+// A table after an insertion; without room it is as it was.
+pub struct NodesWith {
+    pub room: bool,
+    pub nodes: Nodes,
+}
+
+// A table after an insertion; without room it is as it was.
+pub struct TablesWith {
+    pub room: bool,
+    pub tables: Tables,
+}
+
+// A table after an insertion; without room it is as it was.
+pub struct TabletsWith {
+    pub room: bool,
+    pub tablets: Tablets,
+}
+
+// A table after an insertion; without room it is as it was.
+pub struct PlacementsWith {
+    pub room: bool,
+    pub placements: Placements,
+}
+
+// A table after an insertion; without room it is as it was.
+pub struct RetirementsWith {
+    pub room: bool,
+    pub retirements: Retirements,
+}
+
+// The row under a key, and whether it is there; where it is not, the row of zeros.
+pub struct NodeFound {
+    pub there: bool,
+    pub row: NodeDescriptor,
+}
+
+// The same of a tablet.
+pub struct TabletFound {
+    pub there: bool,
+    pub row: TabletDescriptor,
+}
+
+// The same of a placement.
+pub struct PlacementFound {
+    pub there: bool,
+    pub row: DesiredReplicaPlacement,
+}
+
+// The same of a retirement.
+pub struct RetirementFound {
+    pub there: bool,
+    pub row: RetiredReplicaLifetime,
+}
 
 // The place that was found, or n.
 pub fn place(f: Found, n: usize) -> usize

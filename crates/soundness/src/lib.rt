@@ -29,35 +29,35 @@ use metadata::Tablets;
 pub fn sound_nodes(t: Nodes) -> bool
     ensures { λ r. ⌜ r ≡ soundTable nodeKey isZeroNode nodeRoom (t .count) (t .rows) ⌝ }
 {
-    (t.count <= NODE_ROOM) & rows::nodes::nodes_rising(t) & rows::nodes::nodes_clear(t)
+    (t.count <= NODE_ROOM) & node_rows::nodes_rising(t) & node_rows::nodes_clear(t)
 }
 
 pub fn sound_tables(t: Tables) -> bool
     ensures { λ r. ⌜ r ≡ soundTable tableKey isZeroTable tableRoom (t .count) (t .rows) ⌝ }
 {
-    (t.count <= TABLE_ROOM) & rows::tables::tables_rising(t) & rows::tables::tables_clear(t)
+    (t.count <= TABLE_ROOM) & table_rows::tables_rising(t) & table_rows::tables_clear(t)
 }
 
 pub fn sound_tablets(t: Tablets) -> bool
     ensures { λ r. ⌜ r ≡ soundTable tabletKey isZeroTablet tabletRoom (t .count) (t .rows) ⌝ }
 {
-    (t.count <= TABLET_ROOM) & rows::tablets::tablets_rising(t) & rows::tablets::tablets_clear(t)
+    (t.count <= TABLET_ROOM) & tablet_rows::tablets_rising(t) & tablet_rows::tablets_clear(t)
 }
 
 pub fn sound_placements(t: Placements) -> bool
     ensures { λ r. ⌜ r ≡ soundTable placementKey isZeroPlacement tabletRoom (t .count) (t .rows) ⌝ }
 {
     (t.count <= TABLET_ROOM)
-        & rows::placements::placements_rising(t)
-        & rows::placements::placements_clear(t)
+        & placement_rows::placements_rising(t)
+        & placement_rows::placements_clear(t)
 }
 
 pub fn sound_retirements(t: Retirements) -> bool
     ensures { λ r. ⌜ r ≡ soundTable retirementKey isZeroRetirement retirementRoom (t .count) (t .rows) ⌝ }
 {
     (t.count <= RETIREMENT_ROOM)
-        & rows::retirements::retirements_rising(t)
-        & rows::retirements::retirements_clear(t)
+        & retirement_rows::retirements_rising(t)
+        & retirement_rows::retirements_clear(t)
 }
 
 // Each row in use is sound by itself.

@@ -394,7 +394,7 @@ pub fn node(s: Store, k: NodeId) -> NodeFound
     let node = records::zero_node();
     if soundness::sound(s) {
         let directory = s.directory;
-        let Found::At(i) = rows::nodes::find_node(directory.nodes, k) else {
+        let Found::At(i) = node_rows::find_node(directory.nodes, k) else {
             return NodeFound {
                 sound: true,
                 found: false,
@@ -404,7 +404,7 @@ pub fn node(s: Store, k: NodeId) -> NodeFound
         return NodeFound {
             sound: true,
             found: true,
-            node: rows::nodes::node_at(directory.nodes, i),
+            node: node_rows::node_at(directory.nodes, i),
         };
     }
     NodeFound {
@@ -420,7 +420,7 @@ pub fn tablet(s: Store, k: TabletId) -> TabletFound
     let tablet = records::zero_tablet();
     if soundness::sound(s) {
         let catalog = s.catalog;
-        let Found::At(i) = rows::tablets::find_tablet(catalog.tablets, k) else {
+        let Found::At(i) = tablet_rows::find_tablet(catalog.tablets, k) else {
             return TabletFound {
                 sound: true,
                 found: false,
@@ -430,7 +430,7 @@ pub fn tablet(s: Store, k: TabletId) -> TabletFound
         return TabletFound {
             sound: true,
             found: true,
-            tablet: rows::tablets::tablet_at(catalog.tablets, i),
+            tablet: tablet_rows::tablet_at(catalog.tablets, i),
         };
     }
     TabletFound {
@@ -446,7 +446,7 @@ pub fn desired_placement(s: Store, k: TabletId) -> PlacementFound
     let placement = records::zero_placement();
     if soundness::sound(s) {
         let catalog = s.catalog;
-        let Found::At(i) = rows::placements::find_placement(catalog.placements, k) else {
+        let Found::At(i) = placement_rows::find_placement(catalog.placements, k) else {
             return PlacementFound {
                 sound: true,
                 found: false,
@@ -456,7 +456,7 @@ pub fn desired_placement(s: Store, k: TabletId) -> PlacementFound
         return PlacementFound {
             sound: true,
             found: true,
-            placement: rows::placements::placement_at(catalog.placements, i),
+            placement: placement_rows::placement_at(catalog.placements, i),
         };
     }
     PlacementFound {
@@ -472,7 +472,7 @@ pub fn retired_replica(s: Store, group: RaftGroupId, replica: ReplicaId) -> Reti
     let retirement = records::zero_retirement();
     if soundness::sound(s) {
         let catalog = s.catalog;
-        let Found::At(i) = rows::retirements::find_retirement(catalog.retirements, group, replica)
+        let Found::At(i) = retirement_rows::find_retirement(catalog.retirements, group, replica)
         else {
             return RetirementFound {
                 sound: true,
@@ -483,7 +483,7 @@ pub fn retired_replica(s: Store, group: RaftGroupId, replica: ReplicaId) -> Reti
         return RetirementFound {
             sound: true,
             found: true,
-            retirement: rows::retirements::retirement_at(catalog.retirements, i),
+            retirement: retirement_rows::retirement_at(catalog.retirements, i),
         };
     }
     RetirementFound {

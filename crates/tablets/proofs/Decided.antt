@@ -28,8 +28,8 @@ use Rattle.metadata.specs.declared.Retirements.{Retirements}
 use Rattle.metadata.proofs.AnswerLaws.{both-pass}
 use Rattle.metadata.proofs.Guards.{Tabled, tableds, Retires, retires}
 use Rattle.rows.specs.Results.{tabletsWith, retirementsWith}
-use Rattle.rows.specs.declared.tablets.TabletsWith.{TabletsWith}
-use Rattle.rows.specs.declared.retirements.RetirementsWith.{RetirementsWith}
+use Rattle.rows.specs.declared.TabletsWith.{TabletsWith}
+use Rattle.rows.specs.declared.RetirementsWith.{RetirementsWith}
 use Rattle.rows.proofs.Stored.{tablets-packed, tablets-inserted, retirements-packed, retirements-inserted}
 
 -- ---- r is the lowest reason, and the command's own checks gave judged

@@ -1,7 +1,6 @@
 -- The laws that belong to no one function. Assumes nothing.
 pub mod Any
 pub mod Decided
-pub mod Lookup
 pub mod TabletLaws
 pub mod RetirementLaws
 pub mod MarkLaws

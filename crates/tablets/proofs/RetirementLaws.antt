@@ -21,7 +21,7 @@ use Rattle.metadata.specs.declared.TabletDescriptor.{TabletDescriptor}
 use Rattle.metadata.specs.declared.DesiredReplicaPlacement.{DesiredReplicaPlacement}
 use Rattle.metadata.specs.declared.RetiredReplicaLifetime.{RetiredReplicaLifetime}
 use Rattle.rows.specs.Results.{under}
-use Rattle.tablets.proofs.Lookup.{is-there, not-there, the-row}
+use Rattle.rows.proofs.Lookup.{is-there, not-there, the-row}
 
 -- ---- `still_desired`: f is what the search for the placement gave
 module _ (replica k n : ℕ) (rows : List DesiredReplicaPlacement) (f : Found) (q : f ≡ findIndex (under placementKey k) (take n rows)) where

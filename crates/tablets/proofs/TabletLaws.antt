@@ -20,7 +20,7 @@ use Rattle.metadata.specs.declared.TableId.{TableId}
 use Rattle.metadata.specs.declared.TableRow.{TableRow}
 use Rattle.metadata.specs.declared.TabletDescriptor.{TabletDescriptor}
 use Rattle.rows.specs.Results.{under}
-use Rattle.tablets.proofs.Lookup.{is-there, not-there, the-row}
+use Rattle.rows.proofs.Lookup.{is-there, not-there, the-row}
 
 -- ---- `judge_hash`: r is the table's row, b whether the bucket is held, m how many tablets the table has
 module _ (tables : List TableRow) (tablets : List TabletDescriptor) (t : TabletDescriptor) (r : TableRow) (q : r ≡ tableOf (t .«table_id» .0) tables) where

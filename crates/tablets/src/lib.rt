@@ -39,22 +39,22 @@ use metadata::TabletDescriptor;
 use metadata::TabletId;
 use metadata::Tablets;
 use metadata::is_applied;
+use placement_rows::find_placement;
+use placement_rows::placement_at;
 use records::same_retirement;
 use records::same_tablet;
 use records::zero_retirement;
 use records::zero_table;
 use replicas::placement_holds;
-use rows::placements::find_placement;
-use rows::placements::placement_at;
-use rows::retirements::find_retirement;
-use rows::retirements::insert_retirement;
-use rows::retirements::retirement_at;
-use rows::tables::find_table;
-use rows::tables::table_at;
-use rows::tablets::find_group;
-use rows::tablets::find_tablet;
-use rows::tablets::insert_tablet;
-use rows::tablets::tablet_at;
+use retirement_rows::find_retirement;
+use retirement_rows::insert_retirement;
+use retirement_rows::retirement_at;
+use table_rows::find_table;
+use table_rows::table_at;
+use tablet_rows::find_group;
+use tablet_rows::find_tablet;
+use tablet_rows::insert_tablet;
+use tablet_rows::tablet_at;
 
 // Retired in its group: the one test for it.
 pub fn is_replica_retired(group: RaftGroupId, replica: ReplicaId, retirements: Retirements) -> bool

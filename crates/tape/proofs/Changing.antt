@@ -39,8 +39,8 @@ use Rattle.nodes.proofs.Changes.{applied-known, applied-room}
 use Rattle.placements.specs.Copies.{placementsPut}
 use Rattle.placements.proofs.Applied.{applied-put}
 use Rattle.rows.specs.Results.{tabletsWith, retirementsWith}
-use Rattle.rows.specs.declared.tablets.TabletsWith.{TabletsWith}
-use Rattle.rows.specs.declared.retirements.RetirementsWith.{RetirementsWith}
+use Rattle.rows.specs.declared.TabletsWith.{TabletsWith}
+use Rattle.rows.specs.declared.RetirementsWith.{RetirementsWith}
 use Rattle.store.proofs.Steps.{
   named-step,
   registered-step,

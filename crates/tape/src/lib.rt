@@ -24,8 +24,8 @@ use metadata::TABLE_ROOM;
 use metadata::Tablets;
 use metadata::is_applied;
 use metadata::report;
-use rows::retirements::insert_retirement;
-use rows::tablets::insert_tablet;
+use retirement_rows::insert_retirement;
+use tablet_rows::insert_tablet;
 
 // What stands at a place of a tape: nothing more, an unknown byte, a command that is cut short, or a whole command with its byte and the place of the next.
 pub enum Next {

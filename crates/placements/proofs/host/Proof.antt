@@ -1,7 +1,7 @@
 -- `placements::host` meets its contract. Assumes nothing.
 use borrow.Author.Needs.{needs}
 use Rattle.metadata.specs.Tables.{nodeKey}
-use Rattle.tablets.proofs.Lookup.{no-row, the-row}
+use Rattle.rows.proofs.Lookup.{no-row, the-row}
 use Rattle.placements.proofs.host.Statement.{statement}
 use Rattle.placements.proofs.host.Tie as tie
 

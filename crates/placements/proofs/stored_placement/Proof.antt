@@ -1,7 +1,7 @@
 -- `placements::stored_placement` meets its contract. Assumes nothing.
 use borrow.Author.Needs.{needs}
 use Rattle.metadata.specs.Tables.{placementKey}
-use Rattle.tablets.proofs.Lookup.{no-row, the-row}
+use Rattle.rows.proofs.Lookup.{no-row, the-row}
 use Rattle.placements.proofs.stored_placement.Statement.{statement}
 use Rattle.placements.proofs.stored_placement.Tie as tie
 

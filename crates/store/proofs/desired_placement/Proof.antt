@@ -6,8 +6,8 @@ use Rattle.store.proofs.desired_placement.Tie as tie
 use Rattle.store.proofs.desired_placement.Reads as reads
 use Rattle.store.proofs.desired_placement.Lts as lts
 use Rattle.records.proofs.zero_placement.Reads as zero-placement-reads
-use Rattle.rows.proofs.placements.find_placement.Reads as find-placement-reads
-use Rattle.rows.proofs.placements.placement_at.Reads as placement-at-reads
+use Rattle.placement_rows.proofs.find_placement.Reads as find-placement-reads
+use Rattle.placement_rows.proofs.placement_at.Reads as placement-at-reads
 use Rattle.soundness.proofs.sound.Reads as sound-reads
 
 -- src/lib.rt:289:9

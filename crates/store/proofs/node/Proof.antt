@@ -6,8 +6,8 @@ use Rattle.store.proofs.node.Tie as tie
 use Rattle.store.proofs.node.Reads as reads
 use Rattle.store.proofs.node.Lts as lts
 use Rattle.records.proofs.zero_node.Reads as zero-node-reads
-use Rattle.rows.proofs.nodes.find_node.Reads as find-node-reads
-use Rattle.rows.proofs.nodes.node_at.Reads as node-at-reads
+use Rattle.node_rows.proofs.find_node.Reads as find-node-reads
+use Rattle.node_rows.proofs.node_at.Reads as node-at-reads
 use Rattle.soundness.proofs.sound.Reads as sound-reads
 
 -- src/lib.rt:237:9

@@ -6,8 +6,8 @@ use Rattle.store.proofs.retired_replica.Tie as tie
 use Rattle.store.proofs.retired_replica.Reads as reads
 use Rattle.store.proofs.retired_replica.Lts as lts
 use Rattle.records.proofs.zero_retirement.Reads as zero-retirement-reads
-use Rattle.rows.proofs.retirements.find_retirement.Reads as find-retirement-reads
-use Rattle.rows.proofs.retirements.retirement_at.Reads as retirement-at-reads
+use Rattle.retirement_rows.proofs.find_retirement.Reads as find-retirement-reads
+use Rattle.retirement_rows.proofs.retirement_at.Reads as retirement-at-reads
 use Rattle.soundness.proofs.sound.Reads as sound-reads
 
 -- src/lib.rt:315:9

@@ -6,8 +6,8 @@ use Rattle.store.proofs.tablet.Tie as tie
 use Rattle.store.proofs.tablet.Reads as reads
 use Rattle.store.proofs.tablet.Lts as lts
 use Rattle.records.proofs.zero_tablet.Reads as zero-tablet-reads
-use Rattle.rows.proofs.tablets.find_tablet.Reads as find-tablet-reads
-use Rattle.rows.proofs.tablets.tablet_at.Reads as tablet-at-reads
+use Rattle.tablet_rows.proofs.find_tablet.Reads as find-tablet-reads
+use Rattle.tablet_rows.proofs.tablet_at.Reads as tablet-at-reads
 use Rattle.soundness.proofs.sound.Reads as sound-reads
 
 -- src/lib.rt:263:9

@@ -2,7 +2,7 @@
 use borrow.Author.Needs.{needs}
 use Rattle.metadata.specs.Tablets.{isReplicaRetired}
 use Rattle.metadata.specs.Tables.{retirementKey}
-use Rattle.tablets.proofs.Lookup.{is-there, not-there}
+use Rattle.rows.proofs.Lookup.{is-there, not-there}
 use Rattle.tablets.proofs.is_replica_retired.Statement.{statement}
 use Rattle.tablets.proofs.is_replica_retired.Tie as tie
 

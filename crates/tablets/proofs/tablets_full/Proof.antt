@@ -1,7 +1,7 @@
 -- `tablets::tablets_full` meets its contract. Assumes nothing.
 use borrow.Author.Needs.{needs}
 use Rattle.laws.proofs.Rows.{length-mapped}
-use Rattle.tablets.proofs.Lookup.{full-test}
+use Rattle.rows.proofs.Lookup.{full-test}
 use Rattle.tablets.proofs.tablets_full.Statement.{statement}
 use Rattle.tablets.proofs.tablets_full.Tie as tie
 

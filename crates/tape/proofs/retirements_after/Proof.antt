@@ -6,7 +6,7 @@ use Rattle.tape.proofs.retirements_after.Tie as tie
 use Rattle.tape.proofs.retirements_after.Reads as reads
 use Rattle.tape.proofs.retirements_after.Lts as lts
 use Rattle.decode.proofs.retirement_at.Reads as retirement-at-reads
-use Rattle.rows.proofs.retirements.insert_retirement.Reads as insert-retirement-reads
+use Rattle.retirement_rows.proofs.insert_retirement.Reads as insert-retirement-reads
 
 -- src/lib.rt:266:36
 retirement-at-requires : tie.Need-retirement-at-requires

@@ -6,7 +6,7 @@ use Rattle.tape.proofs.tablets_after.Tie as tie
 use Rattle.tape.proofs.tablets_after.Reads as reads
 use Rattle.tape.proofs.tablets_after.Lts as lts
 use Rattle.decode.proofs.tablet_at.Reads as tablet-at-reads
-use Rattle.rows.proofs.tablets.insert_tablet.Reads as insert-tablet-reads
+use Rattle.tablet_rows.proofs.insert_tablet.Reads as insert-tablet-reads
 
 -- src/lib.rt:226:28
 tablet-at-requires : tie.Need-tablet-at-requires

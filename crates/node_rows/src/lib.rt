@@ -1,0 +1,187 @@
+// The nodes: rows that rise by their id.
+ghost use mathlib.Core.Path.{_≡_};
+ghost use Prim.Native.Nat.{_+_, _≤_, _<_};
+ghost use lib.ListN.{take, drop, getD};
+ghost use Rattle.laws.specs.Keyed.{before, has, row};
+ghost use Rattle.laws.specs.Lists.{every};
+ghost use Rattle.laws.specs.Rows.{findIndex, rising};
+ghost use Rattle.metadata.specs.Rooms.{nodeRoom};
+ghost use Rattle.metadata.specs.Tables.{nodeKey, isZeroNode, zeroNode};
+ghost use Rattle.metadata.specs.Model.{viewNodes};
+ghost use Rattle.rows.specs.Results.{openedRows, under, nodesWith, nodesSet};
+use laws::Found;
+use metadata::NODE_ROOM;
+use metadata::NodeDescriptor;
+use metadata::NodeId;
+use metadata::Nodes;
+use records::is_zero_node;
+use records::zero_node;
+use rows::NodeFound;
+use rows::NodesWith;
+use rows::place;
+
+// Where the row with this key stands among the rows in use.
+pub fn find_node(t: Nodes, id: NodeId) -> Found
+    ensures { λ r. ⌜ r ≡ findIndex (under nodeKey (id .0)) (take (t .count) (t .rows)) ⌝ }
+{
+    let rows = t.rows;
+    let count = t.count;
+    let mut i = 0;
+    while i < count {
+        if NODE_ROOM <= i {
+            return Found::Nothing;
+        }
+        if rows[i].node_id.0 == id.0 {
+            return Found::At(i);
+        }
+        i += 1;
+    }
+    Found::Nothing
+}
+
+// The row under this key.
+pub fn lookup_node(t: Nodes, id: NodeId) -> NodeFound
+    ensures { λ r. ⌜ (r .there ≡ has nodeKey (id .0) (viewNodes t)) × (r .row ≡ row nodeKey zeroNode (id .0) (viewNodes t)) ⌝ }
+{
+    let rows = t.rows;
+    let count = t.count;
+    let mut i = 0;
+    while i < count {
+        if NODE_ROOM <= i {
+            return NodeFound {
+                there: false,
+                row: zero_node(),
+            };
+        }
+        if rows[i].node_id.0 == id.0 {
+            return NodeFound {
+                there: true,
+                row: rows[i],
+            };
+        }
+        i += 1;
+    }
+    NodeFound {
+        there: false,
+        row: zero_node(),
+    }
+}
+
+// Where the first row stands that is behind this one.
+fn behind(t: Nodes, x: NodeDescriptor) -> Found
+    ensures { λ r. ⌜ r ≡ findIndex (before nodeKey x) (take (t .count) (t .rows)) ⌝ }
+{
+    let rows = t.rows;
+    let count = t.count;
+    let mut i = 0;
+    while i < count {
+        if NODE_ROOM <= i {
+            return Found::Nothing;
+        }
+        if x.node_id.0 < rows[i].node_id.0 {
+            return Found::At(i);
+        }
+        i += 1;
+    }
+    Found::Nothing
+}
+
+pub fn nodes_rising(t: Nodes) -> bool
+    ensures { λ r. ⌜ r ≡ rising (before nodeKey) (take (t .count) (t .rows)) ⌝ }
+{
+    let rows = t.rows;
+    let count = t.count;
+    let mut i = 0;
+    while i + 1 < count {
+        if NODE_ROOM <= i + 1 {
+            return true;
+        }
+        if rows[i + 1].node_id.0 <= rows[i].node_id.0 {
+            return false;
+        }
+        i += 1;
+    }
+    true
+}
+
+// The rows from the place on move up by one, and the new row takes the place.
+fn opened(
+    rows: [NodeDescriptor; NODE_ROOM],
+    count: usize,
+    at: usize,
+    x: NodeDescriptor,
+) -> [NodeDescriptor; NODE_ROOM]
+    requires { ⌜ (at ≤ count) × (count < nodeRoom) ⌝ }
+    ensures { λ r. ⌜ r ≡ openedRows at x count rows ⌝ }
+{
+    let mut out = rows;
+    out[at] = x;
+    let mut i = at;
+    while i < count {
+        out[i + 1] = rows[i];
+        i += 1;
+    }
+    out
+}
+
+// The table with one row more, at its place.
+pub fn insert_node(t: Nodes, x: NodeDescriptor) -> NodesWith
+    ensures { λ r. ⌜ r ≡ nodesWith t x ⌝ }
+{
+    let rows = t.rows;
+    let count = t.count;
+    if NODE_ROOM <= count {
+        return NodesWith {
+            room: false,
+            nodes: t,
+        };
+    }
+    let at = place(behind(t, x), count);
+    let more = opened(rows, count, at, x);
+    NodesWith {
+        room: true,
+        nodes: Nodes {
+            count: count + 1,
+            rows: more,
+        },
+    }
+}
+
+// The table with another row at a place; past the end nothing changes.
+pub fn with_node(t: Nodes, i: usize, x: NodeDescriptor) -> Nodes
+    ensures { λ r. ⌜ r ≡ nodesSet t i x ⌝ }
+{
+    if NODE_ROOM <= i {
+        return t;
+    }
+    let mut u = t;
+    u.rows[i] = x;
+    u
+}
+
+// The row at a place; past the end the zero row, so that no caller has an index to prove.
+pub fn node_at(t: Nodes, i: usize) -> NodeDescriptor
+    ensures { λ r. ⌜ r ≡ getD (t .rows) i zeroNode ⌝ }
+{
+    if NODE_ROOM <= i {
+        return zero_node();
+    }
+    let rows = t.rows;
+    rows[i]
+}
+
+// The rows that are not in use are all zero.
+pub fn nodes_clear(t: Nodes) -> bool
+    ensures { λ r. ⌜ r ≡ every isZeroNode (drop (t .count) (t .rows)) ⌝ }
+{
+    let rows = t.rows;
+    let mut i = t.count;
+    while i < NODE_ROOM {
+        if is_zero_node(rows[i]) {
+            i += 1;
+        } else {
+            return false;
+        }
+    }
+    true
+}

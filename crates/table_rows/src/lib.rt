@@ -1,0 +1,145 @@
+// The tables: rows that rise by their id.
+ghost use mathlib.Core.Path.{_≡_};
+ghost use Prim.Native.Nat.{_+_, _≤_, _<_};
+ghost use lib.ListN.{take, drop, getD};
+ghost use Rattle.laws.specs.Keyed.{before};
+ghost use Rattle.laws.specs.Lists.{every};
+ghost use Rattle.laws.specs.Rows.{findIndex, rising};
+ghost use Rattle.metadata.specs.Rooms.{tableRoom};
+ghost use Rattle.metadata.specs.Tables.{tableKey, isZeroTable, zeroTable};
+ghost use Rattle.rows.specs.Results.{openedRows, under, tablesWith};
+use laws::Found;
+use metadata::TABLE_ROOM;
+use metadata::TableId;
+use metadata::TableRow;
+use metadata::Tables;
+use records::is_zero_table;
+use records::zero_table;
+use rows::TablesWith;
+use rows::place;
+
+// Where the row with this key stands among the rows in use.
+pub fn find_table(t: Tables, id: TableId) -> Found
+    ensures { λ r. ⌜ r ≡ findIndex (under tableKey (id .0)) (take (t .count) (t .rows)) ⌝ }
+{
+    let rows = t.rows;
+    let count = t.count;
+    let mut i = 0;
+    while i < count {
+        if TABLE_ROOM <= i {
+            return Found::Nothing;
+        }
+        if rows[i].table_id.0 == id.0 {
+            return Found::At(i);
+        }
+        i += 1;
+    }
+    Found::Nothing
+}
+
+// Where the first row stands that is behind this one.
+fn behind(t: Tables, x: TableRow) -> Found
+    ensures { λ r. ⌜ r ≡ findIndex (before tableKey x) (take (t .count) (t .rows)) ⌝ }
+{
+    let rows = t.rows;
+    let count = t.count;
+    let mut i = 0;
+    while i < count {
+        if TABLE_ROOM <= i {
+            return Found::Nothing;
+        }
+        if x.table_id.0 < rows[i].table_id.0 {
+            return Found::At(i);
+        }
+        i += 1;
+    }
+    Found::Nothing
+}
+
+pub fn tables_rising(t: Tables) -> bool
+    ensures { λ r. ⌜ r ≡ rising (before tableKey) (take (t .count) (t .rows)) ⌝ }
+{
+    let rows = t.rows;
+    let count = t.count;
+    let mut i = 0;
+    while i + 1 < count {
+        if TABLE_ROOM <= i + 1 {
+            return true;
+        }
+        if rows[i + 1].table_id.0 <= rows[i].table_id.0 {
+            return false;
+        }
+        i += 1;
+    }
+    true
+}
+
+// The rows from the place on move up by one, and the new row takes the place.
+fn opened(
+    rows: [TableRow; TABLE_ROOM],
+    count: usize,
+    at: usize,
+    x: TableRow,
+) -> [TableRow; TABLE_ROOM]
+    requires { ⌜ (at ≤ count) × (count < tableRoom) ⌝ }
+    ensures { λ r. ⌜ r ≡ openedRows at x count rows ⌝ }
+{
+    let mut out = rows;
+    out[at] = x;
+    let mut i = at;
+    while i < count {
+        out[i + 1] = rows[i];
+        i += 1;
+    }
+    out
+}
+
+// The table with one row more, at its place.
+pub fn insert_table(t: Tables, x: TableRow) -> TablesWith
+    ensures { λ r. ⌜ r ≡ tablesWith t x ⌝ }
+{
+    let rows = t.rows;
+    let count = t.count;
+    if TABLE_ROOM <= count {
+        return TablesWith {
+            room: false,
+            tables: t,
+        };
+    }
+    let at = place(behind(t, x), count);
+    let more = opened(rows, count, at, x);
+    TablesWith {
+        room: true,
+        tables: Tables {
+            count: count + 1,
+            rows: more,
+        },
+    }
+}
+
+// The row at a place; past the end the zero row, so that no caller has an index to prove.
+pub fn table_at(t: Tables, i: usize) -> TableRow
+    ensures { λ r. ⌜ r ≡ getD (t .rows) i zeroTable ⌝ }
+{
+    if TABLE_ROOM <= i {
+        return zero_table();
+    }
+    let rows = t.rows;
+    rows[i]
+}
+
+// The rows that are not in use are all zero.
+pub fn tables_clear(t: Tables) -> bool
+    ensures { λ r. ⌜ r ≡ every isZeroTable (drop (t .count) (t .rows)) ⌝ }
+{
+    let rows = t.rows;
+    let mut i = t.count;
+    while i < TABLE_ROOM {
+        if is_zero_table(rows[i]) {
+            i += 1;
+        } else {
+            return false;
+        }
+    }
+    true
+}
