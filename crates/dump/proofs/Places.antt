@@ -7,7 +7,7 @@ use lib.ListN.{length, take, getD, length-take, length-map, List·getD-append, L
 use lib.Seq.{getD-take, getD-append-add}
 use Rattle.laws.proofs.Rows.{get-any}
 use Rattle.lines.specs.Lines.{Appended}
-use Rattle.dump.proofs.Loops.{nothing}
+use Rattle.pieces.proofs.Loops.{nothing}
 
 -- the rows in use: as many as the count says, and all where it says more
 pub used-long : {A : Type 0} (l : List A) (count room n : ℕ) → length l ≡ room → n ≡ min count room → n ≡ length (take count l)

@@ -56,9 +56,6 @@ use table_rows::table_at;
 use tablet_rows::tablet_at;
 use tablets::is_complete;
 
-mod pieces;
-mod row_lines;
-
 // Room for every line: the longest, a placement line, has at most 811 bytes. specs/Dump.antt names it once more.
 pub const LINE_ROOM: usize = 1024;
 

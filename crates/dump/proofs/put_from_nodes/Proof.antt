@@ -1,7 +1,8 @@
 -- `dump::put_from_nodes` meets its contract. Assumes nothing.
 use borrow.Author.Needs.{needs}
 use Rattle.metadata.specs.Tables.{zeroNode}
-use Rattle.dump.specs.Dump.{nodeLine, fromTables, fromNodes}
+use Rattle.row_lines.specs.RowLines.{nodeLine}
+use Rattle.dump.specs.Dump.{fromTables, fromNodes}
 use Rattle.dump.proofs.Places.{row-put, later-put}
 use Rattle.dump.proofs.put_from_nodes.Statement.{statement}
 use Rattle.dump.proofs.put_from_nodes.Tie as tie

@@ -1,7 +1,8 @@
 -- `dump::put_from_retired` meets its contract. Assumes nothing.
 use borrow.Author.Needs.{needs}
 use Rattle.metadata.specs.Tables.{zeroRetirement}
-use Rattle.dump.specs.Dump.{retiredLine, fromMarks, fromRetired}
+use Rattle.row_lines.specs.RowLines.{retiredLine}
+use Rattle.dump.specs.Dump.{fromMarks, fromRetired}
 use Rattle.dump.proofs.Places.{row-put, later-put}
 use Rattle.dump.proofs.put_from_retired.Statement.{statement}
 use Rattle.dump.proofs.put_from_retired.Tie as tie

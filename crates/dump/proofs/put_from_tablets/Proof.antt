@@ -1,7 +1,8 @@
 -- `dump::put_from_tablets` meets its contract. Assumes nothing.
 use borrow.Author.Needs.{needs}
 use Rattle.metadata.specs.Tables.{zeroTablet}
-use Rattle.dump.specs.Dump.{tabletLine, fromPlacements, fromTablets}
+use Rattle.row_lines.specs.RowLines.{tabletLine}
+use Rattle.dump.specs.Dump.{fromPlacements, fromTablets}
 use Rattle.dump.proofs.Places.{row-put, later-put}
 use Rattle.dump.proofs.put_from_tablets.Statement.{statement}
 use Rattle.dump.proofs.put_from_tablets.Tie as tie

@@ -1,7 +1,7 @@
 -- `dump::put_marks` meets its contract. Assumes nothing.
 use borrow.Author.Needs.{needs}
 use Rattle.dump.specs.Dump.{marksLine}
-use Rattle.dump.proofs.Chains.{chain4}
+use Rattle.row_lines.proofs.Chains.{chain4}
 use Rattle.dump.proofs.put_marks.Statement.{statement}
 use Rattle.dump.proofs.put_marks.Tie as tie
 

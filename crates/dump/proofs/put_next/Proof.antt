@@ -1,7 +1,7 @@
 -- `dump::put_next` meets its contract. Assumes nothing.
 use borrow.Author.Needs.{needs}
 use Rattle.dump.specs.Dump.{nextLine}
-use Rattle.dump.proofs.Chains.{chain3}
+use Rattle.pieces.proofs.Chains.{chain3}
 use Rattle.dump.proofs.put_next.Statement.{statement}
 use Rattle.dump.proofs.put_next.Tie as tie
 

@@ -2,7 +2,8 @@
 use borrow.Author.Tests.{eq-eqb, ne-eqb}
 use borrow.Author.Needs.{needs}
 use Rattle.dump.specs.Dump.{pickLine}
-use Rattle.dump.proofs.Chains.{chain3, chain5}
+use Rattle.pieces.proofs.Chains.{chain3}
+use Rattle.row_lines.proofs.Chains.{chain5}
 use Rattle.dump.proofs.put_pick.Statement.{statement}
 use Rattle.dump.proofs.put_pick.Tie as tie
 

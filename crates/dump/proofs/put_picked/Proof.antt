@@ -1,8 +1,10 @@
 -- `dump::put_picked` meets its contract. Assumes nothing.
 use Prim.Native.Nat.{_-_}
 use borrow.Author.Needs.{needs}
-use Rattle.dump.specs.Dump.{nodeNumber, pickedText}
-use Rattle.dump.proofs.Loops.{Putting, start-used, more, putting, ended-used, used-low}
+use Rattle.row_lines.specs.RowLines.{nodeNumber}
+use Rattle.dump.specs.Dump.{pickedText}
+use Rattle.pieces.proofs.Loops.{Putting, more, putting}
+use Rattle.row_lines.proofs.Used.{start-used, ended-used, used-low}
 use Rattle.dump.proofs.put_picked.Statement.{statement}
 use Rattle.dump.proofs.put_picked.Tie as tie
 
