@@ -66,6 +66,15 @@ module _ {A : Type 0} (T : Keyed A) where
   row-either-go d e k x l true ih h = refl
   row-either-go d e k x l false ih h = ih h
 
+  same-go : {B : Type 0} (f : A → B) (d e : A) (k : T .Key) (x : A) (l : List A) (t : Bool) → f (row T d k l) ≡ f (row T e k l) → f (cond t x (row T d k l)) ≡ f (cond t x (row T e k l))
+  same-go f d e k x l true ih = refl
+  same-go f d e k x l false ih = ih
+
+  -- what two rows that stand for none have in common does not depend on which is taken
+  pub row-same : {B : Type 0} (f : A → B) (d e : A) → f d ≡ f e → (k : T .Key) (l : List A) → f (row T d k l) ≡ f (row T e k l)
+  row-same f d e h k [] = h
+  row-same f d e h k (x ∷ l) = same-go f d e k x l (T .eq (T .key x) k) (row-same f d e h k l)
+
   -- a row that is there does not depend on what stands for none
   pub row-either : (d e : A) (k : T .Key) (l : List A) → has T k l ≡ true → row T d k l ≡ row T e k l
   row-either d e k [] h = cc

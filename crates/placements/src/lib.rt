@@ -46,9 +46,9 @@ use records::no_label;
 use records::same_placement;
 use records::zero_node;
 use records::zero_placement;
+use retirements::is_replica_retired;
 use tablet_rows::find_tablet;
 use tablet_rows::tablet_at;
-use tablets::is_replica_retired;
 
 // What the stored placement has under a replica's number.
 pub enum Kept {

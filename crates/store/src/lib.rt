@@ -127,7 +127,7 @@ pub fn replica_retirement_step(s: Store, x: RetiredReplicaLifetime) -> Answered
     let tablets = catalog.tablets;
     let placements = catalog.placements;
     let marks = catalog.marks;
-    let done = tablets::apply_replica_retirement(
+    let done = retirements::apply_replica_retirement(
         directory.cluster_id,
         tablets,
         placements,

@@ -3,18 +3,17 @@ use Prim.Native.Nat.{ℕ, _<_}
 use native.Mathlib.Omega.{arith}
 use mathlib.Core.Path.{_≡_, sym, ap, _∙_}
 use mathlib.Core.Bool.{Bool, true, false, cond}
-use mathlib.Core.List.{List, []}
+use mathlib.Core.List.{List}
 use borrow.Author.Tests.{eq-eqb, ne-eqb}
 use Rattle.laws.specs.Keyed.{put}
 use Rattle.laws.proofs.ListLaws.{cond-true}
 use Rattle.laws.proofs.Packed.{counted}
-use Rattle.metadata.specs.Rooms.{tabletRoom, retirementRoom}
-use Rattle.metadata.specs.Marks.{initialMarks}
+use Rattle.metadata.specs.Rooms.{tabletRoom}
 use Rattle.metadata.specs.Answers.{isApplied, _⊳_, refuse}
-use Rattle.metadata.specs.Tables.{tabletKey, retirementKey, isZeroTablet, isZeroRetirement, zeroTablet, zeroRetirement}
-use Rattle.metadata.specs.Commands.{Command, tablet, retirement, faults, lowest, needsName}
-use Rattle.metadata.specs.Tablets.{isReplicaRetired, judgeTablet, judgeRetirement}
-use Rattle.metadata.specs.Model.{StoreRows, admission, decided, viewTablets, viewRetirements, packTablets, packRetirements}
+use Rattle.metadata.specs.Tables.{tabletKey, isZeroTablet, zeroTablet}
+use Rattle.metadata.specs.Commands.{Command, tablet, faults, lowest, needsName}
+use Rattle.metadata.specs.Tablets.{judgeTablet}
+use Rattle.metadata.specs.Model.{admission, decided, viewTablets, packTablets}
 use Rattle.metadata.specs.Sound.{soundTable}
 use Rattle.metadata.specs.declared.Answer.{Answer}
 use Rattle.metadata.specs.declared.Answer.the-variants as A
@@ -22,15 +21,11 @@ use Rattle.metadata.specs.declared.OptionalName.{OptionalName}
 use Rattle.metadata.specs.declared.TableRow.{TableRow}
 use Rattle.metadata.specs.declared.TabletDescriptor.{TabletDescriptor}
 use Rattle.metadata.specs.declared.Tablets.{Tablets}
-use Rattle.metadata.specs.declared.DesiredReplicaPlacement.{DesiredReplicaPlacement}
-use Rattle.metadata.specs.declared.RetiredReplicaLifetime.{RetiredReplicaLifetime}
-use Rattle.metadata.specs.declared.Retirements.{Retirements}
 use Rattle.metadata.proofs.AnswerLaws.{both-pass}
-use Rattle.metadata.proofs.Guards.{Tabled, tableds, Retires, retires}
-use Rattle.rows.specs.Results.{tabletsWith, retirementsWith}
+use Rattle.metadata.proofs.Guards.{Tabled, tableds}
+use Rattle.rows.specs.Results.{tabletsWith}
 use Rattle.rows.specs.declared.TabletsWith.{TabletsWith}
-use Rattle.rows.specs.declared.RetirementsWith.{RetirementsWith}
-use Rattle.rows.proofs.Stored.{tablets-packed, tablets-inserted, retirements-packed, retirements-inserted}
+use Rattle.rows.proofs.Stored.{tablets-packed, tablets-inserted}
 
 -- ---- r is the lowest reason, and the command's own checks gave judged
 module _ (name : OptionalName) (c : Command) (judged : Answer) (r : ℕ) (q : r ≡ lowest (faults c)) where
@@ -47,7 +42,7 @@ module _ (name : OptionalName) (c : Command) (judged : Answer) (r : ℕ) (q : r 
   judged-so a h p n e = e ∙ rw (← q, eq-eqb r 0 h, n, p)
 
 -- an Applied decision was an Applied judgement
-judged-applied : (name : OptionalName) (c : Command) (judged : Answer) → isApplied (decided name c judged) ≡ true → isApplied judged ≡ true
+pub judged-applied : (name : OptionalName) (c : Command) (judged : Answer) → isApplied (decided name c judged) ≡ true → isApplied judged ≡ true
 unfolding decided
 judged-applied name c judged e = both-pass _ _ (both-pass _ _ e .1) .1
 
@@ -69,29 +64,3 @@ module _ (name : OptionalName) (tables : List TableRow) (t : Tablets) (x : Table
   tablet-put a b w e g h i =
       let k : isApplied (decided name (tablet x) (judgeTablet tables (viewTablets t) x)) ≡ true = sym (g ∙ ap isApplied e) ∙ h in
       ap (λ (v : TabletsWith). v .tablets) i ∙ tablet-stored k ∙ sym (cond-true _ (packTablets (put tabletKey x (viewTablets t))) t k)
-
-module _ (name : OptionalName) (tablets : List TabletDescriptor) (placements : List DesiredReplicaPlacement) (t : Retirements) (x : RetiredReplicaLifetime)
-    (s : soundTable retirementKey isZeroRetirement retirementRoom (t .count) (t .rows) ≡ true) where
-  -- a store with these tables
-  abbrev rows : StoreRows
-  rows =
-      record {
-        directory = record { name = name; nodes = [] };
-        catalog = record { tables = []; tablets = tablets; placements = placements; retirements = viewRetirements t; marks = initialMarks 0 };
-      }
-
-  retirement-stored : isApplied (decided name (retirement x) (judgeRetirement tablets placements (viewRetirements t) x)) ≡ true →
-      retirementsWith t x .retirements ≡ packRetirements (put retirementKey x (viewRetirements t))
-  unfolding isReplicaRetired
-  retirement-stored e =
-      let g : Retires rows x = retires rows x (judged-applied name (retirement x) (judgeRetirement tablets placements (viewRetirements t) x) e) in
-      let h : t .count < retirementRoom = omega (arith, g .room, counted retirementKey zeroRetirement retirementRoom (t .count) (t .rows) (retirements-packed t s)) in
-      ap (λ (w : RetirementsWith). w .retirements) (retirements-inserted t s x h (g .fresh))
-
-  pub retirement-put : (a : Answer) (b : Bool) (w : RetirementsWith) → a ≡ decided name (retirement x) (judgeRetirement tablets placements (viewRetirements t) x) →
-      b ≡ isApplied a → b ≡ true → w ≡ retirementsWith t x →
-      w .retirements
-      ≡ cond (isApplied (decided name (retirement x) (judgeRetirement tablets placements (viewRetirements t) x))) (packRetirements (put retirementKey x (viewRetirements t))) t
-  retirement-put a b w e g h i =
-      let k : isApplied (decided name (retirement x) (judgeRetirement tablets placements (viewRetirements t) x)) ≡ true = sym (g ∙ ap isApplied e) ∙ h in
-      ap (λ (v : RetirementsWith). v .retirements) i ∙ retirement-stored k ∙ sym (cond-true _ (packRetirements (put retirementKey x (viewRetirements t))) t k)

@@ -2,5 +2,4 @@
 pub mod Any
 pub mod Decided
 pub mod TabletLaws
-pub mod RetirementLaws
 pub mod MarkLaws

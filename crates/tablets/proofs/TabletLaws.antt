@@ -1,18 +1,20 @@
 -- A law for each way out of the functions on tablets. Assumes nothing.
 use Prim.Native.Nat.{ℕ, _≤_, _<_}
-use mathlib.Core.Path.{_≡_, _∙_}
-use mathlib.Core.Bool.{Bool, true, false, cond, _&&_}
+use mathlib.Core.Path.{_≡_, sym, _∙_}
+use mathlib.Core.Bool.{Bool, true, false, not, cond, _&&_}
 use mathlib.Core.List.{List}
 use lib.Dec.{leb, eqb}
 use lib.ListN.{length, getD, take}
-use borrow.Author.Tests.{eq-eqb, ne-eqb, le-leb, lt-leb}
+use borrow.Author.Tests.{eq-eqb, ne-eqb, le-leb, lt-leb, not-true, not-false}
+use Rattle.laws.specs.Keyed.{has, row}
 use Rattle.laws.specs.Lists.{any, tally}
 use Rattle.laws.specs.Rows.{findIndex}
 use Rattle.laws.specs.declared.Found.{Found}
 use Rattle.laws.specs.declared.Found.the-variants.{At, Nothing}
+use Rattle.laws.proofs.KeyedLaws.{row-either}
 use Rattle.metadata.specs.Rooms.{tabletRoom}
 use Rattle.metadata.specs.Answers.{isApplied, _⊳_, refuse}
-use Rattle.metadata.specs.Tables.{tableKey, tabletKey, groupKey, tableOf, zeroTable, zeroTablet, blankTablet, sameTablet}
+use Rattle.metadata.specs.Tables.{tableKey, tabletKey, groupKey, tableOf, tabletOf, zeroTable, zeroTablet, blankTablet, sameTablet}
 use Rattle.metadata.specs.Tablets.{isHash, isRange, inTable, holdsBucket, partitionsOverlap, overlapAt, judgeHash, judgeRange, judgeNewTablet, judgeTablet, isComplete}
 use Rattle.metadata.specs.declared.Answer.{Answer}
 use Rattle.metadata.specs.declared.Answer.the-variants as A
@@ -20,6 +22,7 @@ use Rattle.metadata.specs.declared.TableId.{TableId}
 use Rattle.metadata.specs.declared.TableRow.{TableRow}
 use Rattle.metadata.specs.declared.TabletDescriptor.{TabletDescriptor}
 use Rattle.rows.specs.Results.{under}
+use Rattle.rows.specs.declared.TabletFound.{TabletFound}
 use Rattle.rows.proofs.Lookup.{is-there, not-there, the-row}
 
 -- ---- `judge_hash`: r is the table's row, b whether the bucket is held, m how many tablets the table has
@@ -107,33 +110,27 @@ module _ (n : ℕ) (rows : List TabletDescriptor) (t : TabletDescriptor) (f : Fo
               l,
             )
 
--- ---- `judge_tablet`: f is what the search for the id gave, r the row that it found, b whether that is the same tablet
-module _ (tables : List TableRow) (n : ℕ) (rows : List TabletDescriptor) (t : TabletDescriptor) (f : Found)
-    (q : f ≡ findIndex (under tabletKey (t .«tablet_id» .0)) (take n rows)) where
-  pub tablet-unknown : (a : Answer) → f ≡ Nothing → a ≡ judgeNewTablet tables (take n rows) t → a ≡ judgeTablet tables (take n rows) t
+-- ---- `judge_tablet`: w is what the lookup of the id gave, b whether its row is the same tablet
+module _ (tables : List TableRow) (tablets : List TabletDescriptor) (t : TabletDescriptor) (w : TabletFound)
+    (w₀ : w .there ≡ has tabletKey (t .«tablet_id» .0) tablets) (w₁ : w .row ≡ row tabletKey zeroTablet (t .«tablet_id» .0) tablets) where
+  pub tablet-unknown : (a : Answer) → not (w .there) ≡ true → a ≡ judgeNewTablet tables tablets t → a ≡ judgeTablet tables tablets t
   unfolding judgeTablet
-  tablet-unknown a h e = e ∙ rw (← not-there tabletKey (t .«tablet_id» .0) n rows f q h)
+  tablet-unknown a h e = e ∙ rw (← w₀, not-true (w .there) h)
 
-  module _ (i : ℕ) (h : f ≡ At i) (r : TabletDescriptor) (g : r ≡ getD rows i zeroTablet) (b : Bool) (e : b ≡ sameTablet r t) where
-    pub tablet-again : b ≡ true → A.AlreadyApplied ≡ judgeTablet tables (take n rows) t
-    unfolding judgeTablet
-    tablet-again z =
-        rw (
-          ← is-there tabletKey (t .«tablet_id» .0) n rows f q i h,
-          ← the-row tabletKey (t .«tablet_id» .0) n rows f q i r blankTablet zeroTablet h g,
-          ← e,
-          z,
-        )
+  module _ (h : not (w .there) ≡ false) (b : Bool) (e : b ≡ sameTablet (w .row) t) where
+    there : has tabletKey (t .«tablet_id» .0) tablets ≡ true
+    there = sym w₀ ∙ not-false (w .there) h
 
-    pub tablet-conflict : b ≡ false → A.TabletIdConflict (t .«tablet_id») ≡ judgeTablet tables (take n rows) t
+    its-row : tabletOf (t .«tablet_id» .0) tablets ≡ w .row
+    its-row = row-either tabletKey blankTablet zeroTablet (t .«tablet_id» .0) tablets there ∙ sym w₁
+
+    pub tablet-again : b ≡ true → A.AlreadyApplied ≡ judgeTablet tables tablets t
     unfolding judgeTablet
-    tablet-conflict z =
-        rw (
-          ← is-there tabletKey (t .«tablet_id» .0) n rows f q i h,
-          ← the-row tabletKey (t .«tablet_id» .0) n rows f q i r blankTablet zeroTablet h g,
-          ← e,
-          z,
-        )
+    tablet-again z = rw (there, its-row, ← e, z)
+
+    pub tablet-conflict : b ≡ false → A.TabletIdConflict (t .«tablet_id») ≡ judgeTablet tables tablets t
+    unfolding judgeTablet
+    tablet-conflict z = rw (there, its-row, ← e, z)
 
 -- ---- `is_complete`: f is what the search for the table gave, r the row that it found, m how many tablets the table has
 module _ (k : TableId) (n : ℕ) (rows : List TableRow) (tablets : List TabletDescriptor) (f : Found) (q : f ≡ findIndex (under tableKey (k .0)) (take n rows)) where

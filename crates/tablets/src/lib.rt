@@ -1,4 +1,4 @@
-// Tablets, completeness, retirement, and the marks that a tablet or a placement raises.
+// Tablets, completeness, and the marks that a tablet or a placement raises.
 ghost use mathlib.Core.Path.{_≡_};
 ghost use mathlib.Core.Bool.{true, cond};
 ghost use Prim.Native.Nat.{_≤_};
@@ -6,14 +6,13 @@ ghost use lib.Dec.{leb};
 ghost use lib.ListN.{length, take};
 ghost use Rattle.laws.specs.Keyed.{put};
 ghost use Rattle.laws.specs.Lists.{any, tally};
-ghost use Rattle.metadata.specs.Rooms.{tabletRoom, retirementRoom};
+ghost use Rattle.metadata.specs.Rooms.{tabletRoom};
 ghost use Rattle.metadata.specs.Answers.{isApplied};
-ghost use Rattle.metadata.specs.Tables.{tabletKey, retirementKey, tableOf, placementOf, isZeroTablet, isZeroRetirement};
-ghost use Rattle.metadata.specs.Commands.{tablet, retirement};
-ghost use Rattle.metadata.specs.Tablets.{isHash, inTable, holdsBucket, overlapAt, judgeHash, judgeRange, judgeNewTablet, judgeTablet, isReplicaRetired, desires, judgeKnownRetirement, judgeNewRetirement, judgeRetirement, isComplete, retirementOf};
-ghost use Rattle.metadata.specs.Model.{viewTables, viewTablets, viewPlacements, viewRetirements, packTablets, packRetirements, decided, raisedByTablet, raisedByPlacement, highestReplica};
+ghost use Rattle.metadata.specs.Tables.{tabletKey, tableOf, isZeroTablet};
+ghost use Rattle.metadata.specs.Commands.{tablet};
+ghost use Rattle.metadata.specs.Tablets.{isHash, inTable, holdsBucket, overlapAt, judgeHash, judgeRange, judgeNewTablet, judgeTablet, isComplete};
+ghost use Rattle.metadata.specs.Model.{viewTables, viewTablets, packTablets, decided, raisedByTablet, raisedByPlacement, highestReplica};
 ghost use Rattle.metadata.specs.Sound.{soundTable};
-use admission::retirement_reason;
 use admission::tablet_reason;
 use fields::partitions_overlap;
 use laws::Found;
@@ -24,47 +23,21 @@ use metadata::DesiredReplica;
 use metadata::DesiredReplicaPlacement;
 use metadata::MetadataAllocatorState;
 use metadata::OptionalName;
-use metadata::Placements;
 use metadata::REPLICA_ROOM;
-use metadata::RETIREMENT_ROOM;
-use metadata::RaftGroupId;
-use metadata::ReplicaId;
-use metadata::RetiredReplicaLifetime;
-use metadata::Retirements;
 use metadata::TABLET_ROOM;
 use metadata::TableId;
 use metadata::TableRow;
 use metadata::Tables;
 use metadata::TabletDescriptor;
-use metadata::TabletId;
 use metadata::Tablets;
 use metadata::is_applied;
-use placement_rows::find_placement;
-use placement_rows::placement_at;
-use records::same_retirement;
 use records::same_tablet;
-use records::zero_retirement;
 use records::zero_table;
-use replicas::placement_holds;
-use retirement_rows::find_retirement;
-use retirement_rows::insert_retirement;
-use retirement_rows::retirement_at;
 use table_rows::find_table;
 use table_rows::table_at;
 use tablet_rows::find_group;
-use tablet_rows::find_tablet;
 use tablet_rows::insert_tablet;
-use tablet_rows::tablet_at;
-
-// Retired in its group: the one test for it.
-pub fn is_replica_retired(group: RaftGroupId, replica: ReplicaId, retirements: Retirements) -> bool
-    ensures { λ r. ⌜ r ≡ isReplicaRetired (group .0) (replica .0) (viewRetirements retirements) ⌝ }
-{
-    let Found::At(_) = find_retirement(retirements, group, replica) else {
-        return false;
-    };
-    true
-}
+use tablet_rows::lookup_tablet;
 
 // The table's row; the zero row where there is none.
 pub fn table_of(id: TableId, tables: Tables) -> TableRow
@@ -230,10 +203,11 @@ pub fn judge_tablet(tables: Tables, tablets: Tablets, t: TabletDescriptor) -> An
     ensures { λ r. ⌜ r ≡ judgeTablet (viewTables tables) (viewTablets tablets) t ⌝ }
 {
     let id = t.tablet_id;
-    let Found::At(i) = find_tablet(tablets, id) else {
+    let known = lookup_tablet(tablets, id);
+    if !known.there {
         return judge_new_tablet(tables, tablets, t);
-    };
-    if same_tablet(tablet_at(tablets, i), t) {
+    }
+    if same_tablet(known.row, t) {
         return Answer::AlreadyApplied;
     }
     Answer::TabletIdConflict(id)
@@ -248,108 +222,6 @@ pub fn is_complete(k: TableId, tables: Tables, tablets: Tablets) -> bool
     };
     let limit = table_at(tables, i).tablet_count;
     count_in_table(k, tablets) == (limit as usize)
-}
-
-// The replica number is desired.
-pub fn desires(replica: ReplicaId, p: DesiredReplicaPlacement) -> bool
-    ensures { λ r. ⌜ r ≡ desires (replica .0) p ⌝ }
-{
-    let replicas = p.replicas;
-    placement_holds(replicas, p.replica_count, replica)
-}
-
-// The replica number is desired in the tablet's placement; nothing is desired without one.
-fn still_desired(replica: ReplicaId, tablet: TabletId, placements: Placements) -> bool
-    ensures { λ r. ⌜ r ≡ desires (replica .0) (placementOf (tablet .0) (viewPlacements placements)) ⌝ }
-{
-    let Found::At(i) = find_placement(placements, tablet) else {
-        return false;
-    };
-    desires(replica, placement_at(placements, i))
-}
-
-// The retirement's row; the zero row where there is none.
-fn retirement_of(
-    group: RaftGroupId,
-    replica: ReplicaId,
-    retirements: Retirements,
-) -> RetiredReplicaLifetime
-    ensures { λ r. ⌜ r ≡ retirementOf (group .0) (replica .0) (viewRetirements retirements) ⌝ }
-{
-    let Found::At(i) = find_retirement(retirements, group, replica) else {
-        return zero_retirement();
-    };
-    retirement_at(retirements, i)
-}
-
-// A retirement that is known: the same row again, or another proof for the same replica.
-pub fn judge_known_retirement(retirements: Retirements, x: RetiredReplicaLifetime) -> Answer
-    ensures { λ r. ⌜ r ≡ judgeKnownRetirement (viewRetirements retirements) x ⌝ }
-{
-    let group = x.raft_group_id;
-    let replica = x.replica_id;
-    let known = retirement_of(group, replica, retirements);
-    if same_retirement(known, x) {
-        return Answer::AlreadyApplied;
-    }
-    Answer::RetirementProofConflict(group, replica)
-}
-
-// No row is left for another retirement.
-fn retirements_full(retirements: Retirements) -> bool
-    ensures { λ r. ⌜ r ≡ leb retirementRoom (length (viewRetirements retirements)) ⌝ }
-{
-    RETIREMENT_ROOM <= retirements.count
-}
-
-// The checks of a retirement that is not known yet; t is the tablet of its group.
-pub fn judge_new_retirement(
-    t: TabletDescriptor,
-    placements: Placements,
-    retirements: Retirements,
-    x: RetiredReplicaLifetime,
-) -> Answer
-    ensures { λ r. ⌜ r ≡ judgeNewRetirement t (viewPlacements placements) (viewRetirements retirements) x ⌝ }
-{
-    let tablet = t.tablet_id;
-    let received = x.desired_configuration_epoch;
-    let Found::At(i) = find_placement(placements, tablet) else {
-        return Answer::UnknownTablet(tablet);
-    };
-    let stored = placement_at(placements, i).configuration_epoch;
-    if received != stored {
-        return Answer::PlacementEpochMismatch(tablet, stored, received);
-    }
-    if retirements_full(retirements) {
-        return Answer::TableFull(2, RETIREMENT_ROOM as u64);
-    }
-    Answer::Applied
-}
-
-// The checks of a retirement, from top to bottom.
-pub fn judge_retirement(
-    tablets: Tablets,
-    placements: Placements,
-    retirements: Retirements,
-    x: RetiredReplicaLifetime,
-) -> Answer
-    ensures { λ r. ⌜ r ≡ judgeRetirement (viewTablets tablets) (viewPlacements placements) (viewRetirements retirements) x ⌝ }
-{
-    let group = x.raft_group_id;
-    let replica = x.replica_id;
-    let Found::At(i) = find_group(tablets, group) else {
-        return Answer::UnknownRaftGroup(group);
-    };
-    let t = tablet_at(tablets, i);
-    let wanted = still_desired(replica, t.tablet_id, placements);
-    let retired = is_replica_retired(group, replica, retirements);
-    if wanted {
-        return Answer::RetirementStillDesired(group, replica);
-    }
-    if retired {
-        return judge_known_retirement(retirements, x);
-    }
-    judge_new_retirement(t, placements, retirements, x)
 }
 
 // The marks after an Applied tablet.
@@ -388,15 +260,10 @@ pub fn raised_by_placement(
     raise_in(m, 0, 0, 0, highest)
 }
 
-// What a handler gives: the answer, and the one table that it changes.
+// What the handler gives: the answer, and the one table that it changes.
 pub struct TabletsAnswered {
     pub answer: Answer,
     pub tablets: Tablets,
-}
-
-pub struct RetirementsAnswered {
-    pub answer: Answer,
-    pub retirements: Retirements,
 }
 
 // Every check of a tablet, from admission on.
@@ -437,49 +304,4 @@ pub fn apply_create_tablet(
         };
     }
     TabletsAnswered { answer, tablets }
-}
-
-// Every check of a retirement, from admission on.
-pub fn decide_retirement(
-    cluster_id: OptionalName,
-    tablets: Tablets,
-    placements: Placements,
-    retirements: Retirements,
-    x: RetiredReplicaLifetime,
-) -> Answer
-    ensures { λ r. ⌜ r ≡ decided «cluster_id» (retirement x) (judgeRetirement (viewTablets tablets) (viewPlacements placements) (viewRetirements retirements) x) ⌝ }
-{
-    let reason = retirement_reason(x);
-    if reason != 0 {
-        return Answer::InvalidCommand(reason);
-    }
-    if cluster_id.present {
-        return judge_retirement(tablets, placements, retirements, x);
-    }
-    Answer::NotInitialized
-}
-
-// Inner: the store's entry points show that the retirements are sound. An Applied retirement takes its place; any other answer changes nothing.
-pub fn apply_replica_retirement(
-    cluster_id: OptionalName,
-    tablets: Tablets,
-    placements: Placements,
-    retirements: Retirements,
-    x: RetiredReplicaLifetime,
-) -> RetirementsAnswered
-    requires { ⌜ soundTable retirementKey isZeroRetirement retirementRoom (retirements .count) (retirements .rows) ≡ true ⌝ }
-    ensures { λ r. ⌜ (r .answer ≡ decided «cluster_id» (retirement x) (judgeRetirement (viewTablets tablets) (viewPlacements placements) (viewRetirements retirements) x)) × (r .retirements ≡ cond (isApplied (decided «cluster_id» (retirement x) (judgeRetirement (viewTablets tablets) (viewPlacements placements) (viewRetirements retirements) x))) (packRetirements (put retirementKey x (viewRetirements retirements))) retirements) ⌝ }
-{
-    let answer = decide_retirement(cluster_id, tablets, placements, retirements, x);
-    if is_applied(answer) {
-        let more = insert_retirement(retirements, x).retirements;
-        return RetirementsAnswered {
-            answer,
-            retirements: more,
-        };
-    }
-    RetirementsAnswered {
-        answer,
-        retirements,
-    }
 }

@@ -54,7 +54,8 @@ use Rattle.store.proofs.Steps.{
   sound-placements,
   sound-retirements,
 }
-use Rattle.tablets.proofs.Decided.{tablet-put, retirement-put}
+use Rattle.tablets.proofs.Decided.{tablet-put}
+use Rattle.retirements.proofs.Applied.{retirement-put}
 use Rattle.tape.specs.Tape.{isCommand, sizeOf, commandAt, storeOf, directoryAfter, DirectoryChange}
 
 -- picking has no reason and needs no name

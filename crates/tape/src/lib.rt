@@ -180,7 +180,7 @@ pub fn command_answer(
     }
     if b == 6 {
         let x = decode::retirement_at(tape, at);
-        return tablets::decide_retirement(name, tablets, placements, retirements, x);
+        return retirements::decide_retirement(name, tablets, placements, retirements, x);
     }
     labels::pick_nodes(nodes)
 }

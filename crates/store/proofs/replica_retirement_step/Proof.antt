@@ -5,7 +5,7 @@ use Rattle.store.proofs.replica_retirement_step.Statement.{statement}
 use Rattle.store.proofs.replica_retirement_step.Tie as tie
 use Rattle.store.proofs.replica_retirement_step.Reads as reads
 use Rattle.store.proofs.replica_retirement_step.Lts as lts
-use Rattle.tablets.proofs.apply_replica_retirement.Reads as apply-replica-retirement-reads
+use Rattle.retirements.proofs.apply_replica_retirement.Reads as apply-replica-retirement-reads
 
 -- src/lib.rt:125:9
 apply-replica-retirement-requires : tie.Need-apply-replica-retirement-requires

@@ -4,23 +4,14 @@ use Rattle.tablets.proofs.TabletLaws.{tablet-unknown, tablet-again, tab
 use Rattle.tablets.proofs.judge_tablet.Statement.{statement}
 use Rattle.tablets.proofs.judge_tablet.Tie as tie
 
-find-tablet-requires : tie.Need-find-tablet-requires
-find-tablet-requires c κs = search needs
-
-enum-known-i : tie.Need-enum-known-i
-enum-known-i c = search needs
-
-enum-told : tie.Need-enum-told
-enum-told c = search needs
+lookup-tablet-requires : tie.Need-lookup-tablet-requires
+lookup-tablet-requires c κs = search needs
 
 judge-new-tablet-requires : tie.Need-judge-new-tablet-requires
 judge-new-tablet-requires c κs = search needs
 
 returns : tie.Need-returns
 returns c = search (needs, tablet-unknown)
-
-tablet-at-requires : tie.Need-tablet-at-requires
-tablet-at-requires c κs = search needs
 
 same-tablet-requires : tie.Need-same-tablet-requires
 same-tablet-requires c κs = search needs
@@ -35,12 +26,9 @@ pub judge-tablet-spec : {M : Type 1} → statement M
 judge-tablet-spec =
     tie.close
     (tie.spec
-    find-tablet-requires
-    enum-known-i
-    enum-told
+    lookup-tablet-requires
     judge-new-tablet-requires
     returns
-    tablet-at-requires
     same-tablet-requires
     returns-2
     returns-3)

@@ -14,7 +14,7 @@ use Rattle.nodes.proofs.lifecycle.decide_lifecycle.Reads as decide-lifecycle-re
 use Rattle.nodes.proofs.naming.decide_naming.Reads as decide-naming-reads
 use Rattle.nodes.proofs.registering.decide_registering.Reads as decide-registering-reads
 use Rattle.placements.proofs.decide_placement.Reads as decide-placement-reads
-use Rattle.tablets.proofs.decide_retirement.Reads as decide-retirement-reads
+use Rattle.retirements.proofs.decide_retirement.Reads as decide-retirement-reads
 use Rattle.tablets.proofs.decide_tablet.Reads as decide-tablet-reads
 
 -- src/lib.rt:163:51

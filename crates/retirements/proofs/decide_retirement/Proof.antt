@@ -1,8 +1,8 @@
--- `tablets::decide_retirement` meets its contract. Assumes nothing.
+-- `retirements::decide_retirement` meets its contract. Assumes nothing.
 use borrow.Author.Needs.{needs}
 use Rattle.tablets.proofs.Decided.{inadmissible, judged-so, unnamed}
-use Rattle.tablets.proofs.decide_retirement.Statement.{statement}
-use Rattle.tablets.proofs.decide_retirement.Tie as tie
+use Rattle.retirements.proofs.decide_retirement.Statement.{statement}
+use Rattle.retirements.proofs.decide_retirement.Tie as tie
 
 retirement-reason-requires : tie.Need-retirement-reason-requires
 retirement-reason-requires c κs = search needs

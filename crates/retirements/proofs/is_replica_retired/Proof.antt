@@ -1,10 +1,10 @@
--- `tablets::is_replica_retired` meets its contract. Assumes nothing.
+-- `retirements::is_replica_retired` meets its contract. Assumes nothing.
 use borrow.Author.Needs.{needs}
 use Rattle.metadata.specs.Tablets.{isReplicaRetired}
 use Rattle.metadata.specs.Tables.{retirementKey}
 use Rattle.rows.proofs.Lookup.{is-there, not-there}
-use Rattle.tablets.proofs.is_replica_retired.Statement.{statement}
-use Rattle.tablets.proofs.is_replica_retired.Tie as tie
+use Rattle.retirements.proofs.is_replica_retired.Statement.{statement}
+use Rattle.retirements.proofs.is_replica_retired.Tie as tie
 
 find-retirement-requires : tie.Need-find-retirement-requires
 find-retirement-requires c κs = search needs

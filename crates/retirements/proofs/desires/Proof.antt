@@ -1,8 +1,8 @@
--- `tablets::desires` meets its contract. Assumes nothing.
+-- `retirements::desires` meets its contract. Assumes nothing.
 use borrow.Author.Needs.{needs}
 use Rattle.metadata.specs.Tablets.{desires}
-use Rattle.tablets.proofs.desires.Statement.{statement}
-use Rattle.tablets.proofs.desires.Tie as tie
+use Rattle.retirements.proofs.desires.Statement.{statement}
+use Rattle.retirements.proofs.desires.Tie as tie
 
 placement-holds-requires : tie.Need-placement-holds-requires
 placement-holds-requires c κs = search needs

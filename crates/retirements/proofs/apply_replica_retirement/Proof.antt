@@ -1,8 +1,9 @@
--- `tablets::apply_replica_retirement` meets its contract. Assumes nothing.
+-- `retirements::apply_replica_retirement` meets its contract. Assumes nothing.
 use borrow.Author.Needs.{needs}
-use Rattle.tablets.proofs.Decided.{retirement-put, unchanged}
-use Rattle.tablets.proofs.apply_replica_retirement.Statement.{statement}
-use Rattle.tablets.proofs.apply_replica_retirement.Tie as tie
+use Rattle.tablets.proofs.Decided.{unchanged}
+use Rattle.retirements.proofs.Applied.{retirement-put}
+use Rattle.retirements.proofs.apply_replica_retirement.Statement.{statement}
+use Rattle.retirements.proofs.apply_replica_retirement.Tie as tie
 
 decide-retirement-requires : tie.Need-decide-retirement-requires
 decide-retirement-requires c κs = search needs

@@ -1,0 +1,54 @@
+-- `retirements::judge_retirement` meets its contract. Assumes nothing.
+use borrow.Author.Needs.{needs}
+use Rattle.retirements.proofs.RetirementLaws.{group-unknown, still-wanted, retirement-known, retirement-unknown}
+use Rattle.retirements.proofs.judge_retirement.Statement.{statement}
+use Rattle.retirements.proofs.judge_retirement.Tie as tie
+
+lookup-group-requires : tie.Need-lookup-group-requires
+lookup-group-requires c κs = search needs
+
+returns : tie.Need-returns
+returns c = search (needs, group-unknown)
+
+lookup-placement-requires : tie.Need-lookup-placement-requires
+lookup-placement-requires c κs = search needs
+
+desires-requires : tie.Need-desires-requires
+desires-requires c κs = search needs
+
+returns-2 : tie.Need-returns-2
+returns-2 c = search (needs, still-wanted)
+
+lookup-retirement-requires : tie.Need-lookup-retirement-requires
+lookup-retirement-requires c κs = search needs
+
+judge-known-retirement-requires : tie.Need-judge-known-retirement-requires
+judge-known-retirement-requires c κs = search needs
+
+returns-3 : tie.Need-returns-3
+returns-3 c = search (needs, retirement-known)
+
+retirements-full-requires : tie.Need-retirements-full-requires
+retirements-full-requires c κs = search needs
+
+judge-new-retirement-requires : tie.Need-judge-new-retirement-requires
+judge-new-retirement-requires c κs = search needs
+
+returns-4 : tie.Need-returns-4
+returns-4 c = search (needs, retirement-unknown)
+
+pub judge-retirement-spec : {M : Type 1} → statement M
+judge-retirement-spec =
+    tie.close
+    (tie.spec
+    lookup-group-requires
+    returns
+    lookup-placement-requires
+    desires-requires
+    returns-2
+    lookup-retirement-requires
+    judge-known-retirement-requires
+    returns-3
+    retirements-full-requires
+    judge-new-retirement-requires
+    returns-4)

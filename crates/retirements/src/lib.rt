@@ -1,0 +1,174 @@
+// Retirement: a replica number that is no longer desired is given up for good.
+ghost use mathlib.Core.Path.{_≡_};
+ghost use mathlib.Core.Bool.{true, cond};
+ghost use lib.Dec.{leb};
+ghost use lib.ListN.{length};
+ghost use Rattle.laws.specs.Keyed.{put};
+ghost use Rattle.metadata.specs.Rooms.{retirementRoom};
+ghost use Rattle.metadata.specs.Answers.{isApplied};
+ghost use Rattle.metadata.specs.Tables.{retirementKey, isZeroRetirement};
+ghost use Rattle.metadata.specs.Commands.{retirement};
+ghost use Rattle.metadata.specs.Tablets.{isReplicaRetired, desires, judgeRetirement};
+ghost use Rattle.metadata.specs.Model.{viewTablets, viewPlacements, viewRetirements, packRetirements, decided};
+ghost use Rattle.metadata.specs.Sound.{soundTable};
+ghost use Rattle.retirements.specs.Steps.{judgeKnownRow, judgeNewRow};
+use admission::retirement_reason;
+use laws::Found;
+use metadata::Answer;
+use metadata::DesiredReplicaPlacement;
+use metadata::OptionalName;
+use metadata::Placements;
+use metadata::RETIREMENT_ROOM;
+use metadata::RaftGroupId;
+use metadata::ReplicaId;
+use metadata::RetiredReplicaLifetime;
+use metadata::Retirements;
+use metadata::TabletId;
+use metadata::Tablets;
+use metadata::is_applied;
+use placement_rows::lookup_placement;
+use records::same_retirement;
+use replicas::placement_holds;
+use retirement_rows::find_retirement;
+use retirement_rows::insert_retirement;
+use retirement_rows::lookup_retirement;
+use rows::PlacementFound;
+use tablet_rows::lookup_group;
+
+// Retired in its group: the one test for it.
+pub fn is_replica_retired(group: RaftGroupId, replica: ReplicaId, retirements: Retirements) -> bool
+    ensures { λ r. ⌜ r ≡ isReplicaRetired (group .0) (replica .0) (viewRetirements retirements) ⌝ }
+{
+    let Found::At(_) = find_retirement(retirements, group, replica) else {
+        return false;
+    };
+    true
+}
+
+// The replica number is desired.
+fn desires(replica: ReplicaId, p: DesiredReplicaPlacement) -> bool
+    ensures { λ r. ⌜ r ≡ desires (replica .0) p ⌝ }
+{
+    let replicas = p.replicas;
+    placement_holds(replicas, p.replica_count, replica)
+}
+
+// A retirement that is known: the same row again, or another proof for the same replica.
+fn judge_known_retirement(known: RetiredReplicaLifetime, x: RetiredReplicaLifetime) -> Answer
+    ensures { λ r. ⌜ r ≡ judgeKnownRow known x ⌝ }
+{
+    let group = x.raft_group_id;
+    let replica = x.replica_id;
+    if same_retirement(known, x) {
+        return Answer::AlreadyApplied;
+    }
+    Answer::RetirementProofConflict(group, replica)
+}
+
+// No row is left for another retirement.
+fn retirements_full(retirements: Retirements) -> bool
+    ensures { λ r. ⌜ r ≡ leb retirementRoom (length (viewRetirements retirements)) ⌝ }
+{
+    RETIREMENT_ROOM <= retirements.count
+}
+
+// The checks of a retirement that is not known yet, by the placement of its group's tablet.
+fn judge_new_retirement(
+    tablet: TabletId,
+    placed: PlacementFound,
+    full: bool,
+    x: RetiredReplicaLifetime,
+) -> Answer
+    ensures { λ r. ⌜ r ≡ judgeNewRow tablet (placed .there) (placed .row .«configuration_epoch») full x ⌝ }
+{
+    let stored = placed.row.configuration_epoch;
+    let received = x.desired_configuration_epoch;
+    if !placed.there {
+        return Answer::UnknownTablet(tablet);
+    }
+    if received != stored {
+        return Answer::PlacementEpochMismatch(tablet, stored, received);
+    }
+    if full {
+        return Answer::TableFull(2, RETIREMENT_ROOM as u64);
+    }
+    Answer::Applied
+}
+
+// The checks of a retirement, from top to bottom; each row is looked up once.
+pub fn judge_retirement(
+    tablets: Tablets,
+    placements: Placements,
+    retirements: Retirements,
+    x: RetiredReplicaLifetime,
+) -> Answer
+    ensures { λ r. ⌜ r ≡ judgeRetirement (viewTablets tablets) (viewPlacements placements) (viewRetirements retirements) x ⌝ }
+{
+    let group = x.raft_group_id;
+    let replica = x.replica_id;
+    let owner = lookup_group(tablets, group);
+    if !owner.there {
+        return Answer::UnknownRaftGroup(group);
+    }
+    let tablet = owner.row.tablet_id;
+    let placed = lookup_placement(placements, tablet);
+    if desires(replica, placed.row) {
+        return Answer::RetirementStillDesired(group, replica);
+    }
+    let known = lookup_retirement(retirements, group, replica);
+    if known.there {
+        return judge_known_retirement(known.row, x);
+    }
+    judge_new_retirement(tablet, placed, retirements_full(retirements), x)
+}
+
+// What the handler gives: the answer, and the one table that it changes.
+pub struct RetirementsAnswered {
+    pub answer: Answer,
+    pub retirements: Retirements,
+}
+
+// Every check of a retirement, from admission on.
+pub fn decide_retirement(
+    cluster_id: OptionalName,
+    tablets: Tablets,
+    placements: Placements,
+    retirements: Retirements,
+    x: RetiredReplicaLifetime,
+) -> Answer
+    ensures { λ r. ⌜ r ≡ decided «cluster_id» (retirement x) (judgeRetirement (viewTablets tablets) (viewPlacements placements) (viewRetirements retirements) x) ⌝ }
+{
+    let reason = retirement_reason(x);
+    if reason != 0 {
+        return Answer::InvalidCommand(reason);
+    }
+    if cluster_id.present {
+        return judge_retirement(tablets, placements, retirements, x);
+    }
+    Answer::NotInitialized
+}
+
+// Inner: the store's entry points show that the retirements are sound. An Applied retirement takes its place; any other answer changes nothing.
+pub fn apply_replica_retirement(
+    cluster_id: OptionalName,
+    tablets: Tablets,
+    placements: Placements,
+    retirements: Retirements,
+    x: RetiredReplicaLifetime,
+) -> RetirementsAnswered
+    requires { ⌜ soundTable retirementKey isZeroRetirement retirementRoom (retirements .count) (retirements .rows) ≡ true ⌝ }
+    ensures { λ r. ⌜ (r .answer ≡ decided «cluster_id» (retirement x) (judgeRetirement (viewTablets tablets) (viewPlacements placements) (viewRetirements retirements) x)) × (r .retirements ≡ cond (isApplied (decided «cluster_id» (retirement x) (judgeRetirement (viewTablets tablets) (viewPlacements placements) (viewRetirements retirements) x))) (packRetirements (put retirementKey x (viewRetirements retirements))) retirements) ⌝ }
+{
+    let answer = decide_retirement(cluster_id, tablets, placements, retirements, x);
+    if is_applied(answer) {
+        let more = insert_retirement(retirements, x).retirements;
+        return RetirementsAnswered {
+            answer,
+            retirements: more,
+        };
+    }
+    RetirementsAnswered {
+        answer,
+        retirements,
+    }
+}
