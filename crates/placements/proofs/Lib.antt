@@ -1,8 +1,5 @@
 -- The laws that belong to no one function. Assumes nothing.
 pub mod Applied
 pub mod Checks
-pub mod Domains
 pub mod Last
 pub mod Placing
-pub mod Turns
-pub mod Unstored

@@ -1,6 +1,6 @@
 -- `placements::judge_change` meets its contract. Assumes nothing.
 use borrow.Author.Needs.{needs}
-use Rattle.placements.proofs.Turns.{at-first, at-second, at-third}
+use Rattle.standing.proofs.Turns.{at-first, at-second, at-third}
 use Rattle.placements.proofs.judge_change.Statement.{statement}
 use Rattle.placements.proofs.judge_change.Tie as tie
 

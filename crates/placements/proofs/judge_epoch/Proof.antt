@@ -4,23 +4,11 @@ use Rattle.placements.proofs.Checks.{epoch-first, epoch-next}
 use Rattle.placements.proofs.judge_epoch.Statement.{statement}
 use Rattle.placements.proofs.judge_epoch.Tie as tie
 
-find-placement-requires : tie.Need-find-placement-requires
-find-placement-requires c κs = search needs
-
-enum-known-i : tie.Need-enum-known-i
-enum-known-i c = search needs
-
-enum-told : tie.Need-enum-told
-enum-told c = search needs
-
 judge-first-epoch-requires : tie.Need-judge-first-epoch-requires
 judge-first-epoch-requires c κs = search needs
 
 returns : tie.Need-returns
 returns c = search (needs, epoch-first)
-
-placement-at-requires : tie.Need-placement-at-requires
-placement-at-requires c κs = search needs
 
 judge-next-epoch-requires : tie.Need-judge-next-epoch-requires
 judge-next-epoch-requires c κs = search needs
@@ -30,13 +18,4 @@ returns-2 c = search (needs, epoch-next)
 
 pub judge-epoch-spec : {M : Type 1} → statement M
 judge-epoch-spec =
-    tie.close
-    (tie.spec
-    find-placement-requires
-    enum-known-i
-    enum-told
-    judge-first-epoch-requires
-    returns
-    placement-at-requires
-    judge-next-epoch-requires
-    returns-2)
+    tie.close (tie.spec judge-first-epoch-requires returns judge-next-epoch-requires returns-2)

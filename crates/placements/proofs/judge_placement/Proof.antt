@@ -1,20 +1,18 @@
 -- `placements::judge_placement` meets its contract. Assumes nothing.
 use borrow.Author.Needs.{needs}
-use Rattle.placements.proofs.Placing.{no-tablet, stored-already, judged-anew}
+use Rattle.laws.proofs.Rows.{length-mapped}
+use Rattle.placements.proofs.Placing.{no-tablet, stored-already, stands-so, stands-not}
 use Rattle.placements.proofs.judge_placement.Statement.{statement}
 use Rattle.placements.proofs.judge_placement.Tie as tie
 
-find-tablet-requires : tie.Need-find-tablet-requires
-find-tablet-requires c κs = search needs
-
-enum-told : tie.Need-enum-told
-enum-told c = search needs
-
-enum-told-2 : tie.Need-enum-told-2
-enum-told-2 c = search needs
+lookup-tablet-requires : tie.Need-lookup-tablet-requires
+lookup-tablet-requires c κs = search needs
 
 returns : tie.Need-returns
 returns c = search (needs, no-tablet)
+
+lookup-placement-requires : tie.Need-lookup-placement-requires
+lookup-placement-requires c κs = search needs
 
 is-stored-requires : tie.Need-is-stored-requires
 is-stored-requires c κs = search needs
@@ -22,21 +20,32 @@ is-stored-requires c κs = search needs
 returns-2 : tie.Need-returns-2
 returns-2 c = search (needs, stored-already)
 
-judge-new-placement-requires : tie.Need-judge-new-placement-requires
-judge-new-placement-requires c κs = search needs
+judge-standing-requires : tie.Need-judge-standing-requires
+judge-standing-requires c κs = search needs
+
+is-applied-requires : tie.Need-is-applied-requires
+is-applied-requires c κs = search needs
+
+judge-change-requires : tie.Need-judge-change-requires
+judge-change-requires c κs = search needs
 
 returns-3 : tie.Need-returns-3
-returns-3 c = search (needs, judged-anew)
+returns-3 c = search (length-mapped, stands-so, c .before .before .before .before .before .before .before .before .before .before .before .good .1 .1 .0, needs)
+
+returns-4 : tie.Need-returns-4
+returns-4 c = search (needs, stands-not)
 
 pub judge-placement-spec : {M : Type 1} → statement M
 judge-placement-spec =
     tie.close
     (tie.spec
-    find-tablet-requires
-    enum-told
-    enum-told-2
+    lookup-tablet-requires
     returns
+    lookup-placement-requires
     is-stored-requires
     returns-2
-    judge-new-placement-requires
-    returns-3)
+    judge-standing-requires
+    is-applied-requires
+    judge-change-requires
+    returns-3
+    returns-4)

@@ -1,0 +1,46 @@
+-- `standing::judge_replica` meets its contract. Assumes nothing.
+use borrow.Author.Needs.{needs}
+use Rattle.standing.proofs.Checks.{replica-unknown, replica-idle, replica-class, replica-retired, replica-passes}
+use Rattle.standing.proofs.judge_replica.Statement.{statement}
+use Rattle.standing.proofs.judge_replica.Tie as tie
+
+returns : tie.Need-returns
+returns c = search (needs, replica-unknown)
+
+stands-already-requires : tie.Need-stands-already-requires
+stands-already-requires c κs = search needs
+
+eligible-requires : tie.Need-eligible-requires
+eligible-requires c κs = search needs
+
+returns-2 : tie.Need-returns-2
+returns-2 c = search (needs, replica-idle)
+
+class-differs-requires : tie.Need-class-differs-requires
+class-differs-requires c κs = search needs
+
+returns-3 : tie.Need-returns-3
+returns-3 c = search (needs, replica-class)
+
+is-replica-retired-requires : tie.Need-is-replica-retired-requires
+is-replica-retired-requires c κs = search needs
+
+returns-4 : tie.Need-returns-4
+returns-4 c = search (needs, replica-retired)
+
+returns-5 : tie.Need-returns-5
+returns-5 c = search (needs, replica-passes)
+
+pub judge-replica-spec : {M : Type 1} → statement M
+judge-replica-spec =
+    tie.close
+    (tie.spec
+    returns
+    stands-already-requires
+    eligible-requires
+    returns-2
+    class-differs-requires
+    returns-3
+    is-replica-retired-requires
+    returns-4
+    returns-5)
