@@ -2,6 +2,7 @@
 pub mod Bytes
 pub mod Clear
 pub mod Every
+pub mod Filling
 pub mod Hits
 pub mod Insert
 pub mod KeyedLaws

@@ -1,6 +1,8 @@
 // The placements: rows that rise by their tablet's id.
 ghost use mathlib.Core.Path.{_≡_};
-ghost use Prim.Native.Nat.{_+_, _≤_, _<_};
+ghost use mathlib.Core.List.{map};
+ghost use Prim.Native.Nat.{ℕ, _+_, _≤_, _<_};
+ghost use lib.Dec.{eqb};
 ghost use lib.ListN.{take, drop, getD};
 ghost use Rattle.laws.specs.Keyed.{before, has, row};
 ghost use Rattle.laws.specs.Lists.{every};
@@ -8,6 +10,7 @@ ghost use Rattle.laws.specs.Rows.{findIndex, rising};
 ghost use Rattle.metadata.specs.Rooms.{tabletRoom};
 ghost use Rattle.metadata.specs.Tables.{placementKey, isZeroPlacement, zeroPlacement};
 ghost use Rattle.metadata.specs.Model.{viewPlacements};
+ghost use Rattle.metadata.specs.declared.DesiredReplicaPlacement.{DesiredReplicaPlacement};
 ghost use Rattle.rows.specs.Results.{openedRows, under, placementsWith, placementsSet};
 use laws::Found;
 use metadata::DesiredReplicaPlacement;
@@ -65,6 +68,38 @@ pub fn lookup_placement(t: Placements, id: TabletId) -> PlacementFound
         there: false,
         row: zero_placement(),
     }
+}
+
+// The keys of all rows: to search these again and again copies no table.
+pub fn placement_ids(t: Placements) -> [u64; TABLET_ROOM]
+    ensures { λ r. ⌜ r ≡ map (λ (p : DesiredReplicaPlacement). p .«tablet_id» .0) (t .rows) ⌝ }
+{
+    let rows = t.rows;
+    let mut ids = [0; TABLET_ROOM];
+    let mut i: usize = 0;
+    while i < TABLET_ROOM {
+        ids[i] = rows[i].tablet_id.0;
+        i += 1;
+    }
+    ids
+}
+
+// Where an id stands among the first n.
+pub fn find_id(ids: &[u64], n: usize, id: u64) -> Found
+    ensures { λ r. ⌜ r ≡ findIndex (λ (x : ℕ). eqb x id) (take n (now (ids .entry))) ⌝ }
+{
+    let room = ids.len();
+    let mut i: usize = 0;
+    while i < n {
+        if room <= i {
+            return Found::Nothing;
+        }
+        if ids[i] == id {
+            return Found::At(i);
+        }
+        i += 1;
+    }
+    Found::Nothing
 }
 
 // Where the first row stands that is behind this one.

@@ -169,7 +169,7 @@ pub fn cluster_initialized_step(s: Store, t: Name) -> Answered
     let directory = s.directory;
     let catalog = s.catalog;
     let nodes = directory.nodes;
-    let done = nodes::naming::apply_cluster_initialized(directory.cluster_id, t);
+    let done = naming::apply_cluster_initialized(directory.cluster_id, t);
     let answer = done.answer;
     let cluster_id = done.cluster_id;
     Answered {
@@ -189,7 +189,7 @@ pub fn register_node_step(s: Store, n: NodeDescriptor) -> Answered
     let directory = s.directory;
     let catalog = s.catalog;
     let cluster_id = directory.cluster_id;
-    let done = nodes::registering::apply_register_node(
+    let done = registering::apply_register_node(
         cluster_id,
         directory.nodes,
         catalog.tablets,
@@ -215,7 +215,7 @@ pub fn set_node_lifecycle_step(s: Store, k: NodeId, to: u8) -> Answered
     let directory = s.directory;
     let catalog = s.catalog;
     let cluster_id = directory.cluster_id;
-    let done = nodes::lifecycle::apply_set_node_lifecycle(
+    let done = lifecycle::apply_set_node_lifecycle(
         cluster_id,
         directory.nodes,
         catalog.tablets,

@@ -35,7 +35,8 @@ use Rattle.metadata.specs.declared.Retirements.{Retirements}
 use Rattle.metadata.specs.declared.Store.{Store}
 use Rattle.metadata.specs.declared.TabletDescriptor.{TabletDescriptor}
 use Rattle.metadata.specs.declared.Tablets.{Tablets}
-use Rattle.nodes.proofs.Changes.{applied-known, applied-room}
+use Rattle.lifecycle.proofs.Changes.{applied-known}
+use Rattle.registering.proofs.Changes.{applied-room}
 use Rattle.placements.specs.Copies.{placementsPut}
 use Rattle.placements.proofs.Applied.{applied-put}
 use Rattle.rows.specs.Results.{tabletsWith, retirementsWith}

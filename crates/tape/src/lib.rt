@@ -160,16 +160,16 @@ pub fn command_answer(
     let placements = catalog.placements;
     let retirements = catalog.retirements;
     if b == 1 {
-        return nodes::naming::decide_naming(name, decode::name_at(tape, at));
+        return naming::decide_naming(name, decode::name_at(tape, at));
     }
     if b == 2 {
         let n = decode::node_at(tape, at);
-        return nodes::registering::decide_registering(name, nodes, tablets, placements, n);
+        return registering::decide_registering(name, nodes, tablets, placements, n);
     }
     if b == 3 {
         let k = NodeId(decode::number8(tape, at));
         let to = tape[at + 8];
-        return nodes::lifecycle::decide_lifecycle(name, nodes, tablets, placements, k, to);
+        return lifecycle::decide_lifecycle(name, nodes, tablets, placements, k, to);
     }
     if b == 4 {
         return tablets::decide_tablet(name, catalog.tables, tablets, decode::tablet_at(tape, at));
@@ -204,14 +204,14 @@ pub fn directory_after(directory: Directory, b: u8, tape: &[u8], at: usize) -> D
         };
     }
     if b == 2 {
-        let more = nodes::registering::registered_nodes(nodes, decode::node_at(tape, at));
+        let more = registering::registered_nodes(nodes, decode::node_at(tape, at));
         return Directory {
             cluster_id,
             nodes: more,
         };
     }
     let k = NodeId(decode::number8(tape, at));
-    let moved = nodes::lifecycle::moved_nodes(nodes, k, tape[at + 8]);
+    let moved = lifecycle::moved_nodes(nodes, k, tape[at + 8]);
     Directory {
         cluster_id,
         nodes: moved,

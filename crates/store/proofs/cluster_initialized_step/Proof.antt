@@ -4,7 +4,7 @@ use Rattle.store.proofs.cluster_initialized_step.Statement.{statement}
 use Rattle.store.proofs.cluster_initialized_step.Tie as tie
 use Rattle.store.proofs.cluster_initialized_step.Reads as reads
 use Rattle.store.proofs.cluster_initialized_step.Lts as lts
-use Rattle.nodes.proofs.naming.apply_cluster_initialized.Reads as apply-cluster-initialized-reads
+use Rattle.naming.proofs.apply_cluster_initialized.Reads as apply-cluster-initialized-reads
 
 -- src/lib.rt:172:9
 apply-cluster-initialized-requires : tie.Need-apply-cluster-initialized-requires

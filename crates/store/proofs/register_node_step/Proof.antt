@@ -4,7 +4,7 @@ use Rattle.store.proofs.register_node_step.Statement.{statement}
 use Rattle.store.proofs.register_node_step.Tie as tie
 use Rattle.store.proofs.register_node_step.Reads as reads
 use Rattle.store.proofs.register_node_step.Lts as lts
-use Rattle.nodes.proofs.registering.apply_register_node.Reads as apply-register-node-reads
+use Rattle.registering.proofs.apply_register_node.Reads as apply-register-node-reads
 
 -- src/lib.rt:192:9
 apply-register-node-requires : tie.Need-apply-register-node-requires

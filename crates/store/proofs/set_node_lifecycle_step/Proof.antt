@@ -4,7 +4,7 @@ use Rattle.store.proofs.set_node_lifecycle_step.Statement.{statement}
 use Rattle.store.proofs.set_node_lifecycle_step.Tie as tie
 use Rattle.store.proofs.set_node_lifecycle_step.Reads as reads
 use Rattle.store.proofs.set_node_lifecycle_step.Lts as lts
-use Rattle.nodes.proofs.lifecycle.apply_set_node_lifecycle.Reads as apply-set-node-lifecycle-reads
+use Rattle.lifecycle.proofs.apply_set_node_lifecycle.Reads as apply-set-node-lifecycle-reads
 
 -- src/lib.rt:218:9
 apply-set-node-lifecycle-requires : tie.Need-apply-set-node-lifecycle-requires

@@ -10,9 +10,9 @@ use Rattle.decode.proofs.placement_at.Reads as placement-at-reads
 use Rattle.decode.proofs.retirement_at.Reads as retirement-at-reads
 use Rattle.decode.proofs.tablet_at.Reads as tablet-at-reads
 use Rattle.labels.proofs.pick_nodes.Reads as pick-nodes-reads
-use Rattle.nodes.proofs.lifecycle.decide_lifecycle.Reads as decide-lifecycle-reads
-use Rattle.nodes.proofs.naming.decide_naming.Reads as decide-naming-reads
-use Rattle.nodes.proofs.registering.decide_registering.Reads as decide-registering-reads
+use Rattle.lifecycle.proofs.decide_lifecycle.Reads as decide-lifecycle-reads
+use Rattle.naming.proofs.decide_naming.Reads as decide-naming-reads
+use Rattle.registering.proofs.decide_registering.Reads as decide-registering-reads
 use Rattle.placements.proofs.decide_placement.Reads as decide-placement-reads
 use Rattle.retirements.proofs.decide_retirement.Reads as decide-retirement-reads
 use Rattle.tablets.proofs.decide_tablet.Reads as decide-tablet-reads

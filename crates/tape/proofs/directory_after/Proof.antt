@@ -7,8 +7,8 @@ use Rattle.tape.proofs.directory_after.Lts as lts
 use Rattle.decode.proofs.name_at.Reads as name-at-reads
 use Rattle.decode.proofs.node_at.Reads as node-at-reads
 use Rattle.decode.proofs.number8.Reads as number8-reads
-use Rattle.nodes.proofs.lifecycle.moved_nodes.Reads as moved-nodes-reads
-use Rattle.nodes.proofs.registering.registered_nodes.Reads as registered-nodes-reads
+use Rattle.lifecycle.proofs.moved_nodes.Reads as moved-nodes-reads
+use Rattle.registering.proofs.registered_nodes.Reads as registered-nodes-reads
 
 -- src/lib.rt:196:13
 name-at-requires : tie.Need-name-at-requires

@@ -1,0 +1,4 @@
+-- The laws that belong to no one function. Assumes nothing.
+pub mod Advance
+pub mod Changes
+pub mod Moving

@@ -1,0 +1,28 @@
+-- `lifecycle::moved_nodes` meets its contract. Assumes nothing.
+use borrow.Author.Needs.{needs}
+use Rattle.lifecycle.proofs.Changes.{never-missing, row-moved}
+use Rattle.lifecycle.proofs.moved_nodes.Statement.{statement}
+use Rattle.lifecycle.proofs.moved_nodes.Tie as tie
+
+find-node-requires : tie.Need-find-node-requires
+find-node-requires c κs = search needs
+
+enum-known-i : tie.Need-enum-known-i
+enum-known-i c = search needs
+
+enum-told : tie.Need-enum-told
+enum-told c = search needs
+
+returns : tie.Need-returns
+returns c = search (needs, never-missing)
+
+moved-at-requires : tie.Need-moved-at-requires
+moved-at-requires c κs = search needs
+
+returns-2 : tie.Need-returns-2
+returns-2 c = search (needs, row-moved)
+
+pub moved-nodes-spec : {M : Type 1} → statement M
+moved-nodes-spec =
+    tie.close
+    (tie.spec find-node-requires enum-known-i enum-told returns moved-at-requires returns-2)

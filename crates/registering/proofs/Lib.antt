@@ -1,0 +1,4 @@
+-- The laws that belong to no one function. Assumes nothing.
+pub mod Changes
+pub mod Endpoints
+pub mod Entering
