@@ -28,7 +28,7 @@ use Rattle.metadata.specs.declared.Retirements.{Retirements}
 use Rattle.metadata.proofs.AnswerLaws.{stop, go-on, past, here}
 use Rattle.standing.specs.Standing.{judgeStanding}
 use Rattle.standing.proofs.Turns.{three-then}
-use Rattle.standing.proofs.Unstored.{row-same}
+use Rattle.laws.proofs.KeyedLaws.{row-same}
 use Rattle.placements.specs.Copies.{judgeEpochAfter, judgeRoom, judgeChange, isStored}
 
 -- ---- the stored placement, as the lookup gave it

@@ -19,7 +19,7 @@ use Rattle.metadata.specs.declared.DesiredReplica.{DesiredReplica}
 use Rattle.metadata.specs.declared.DesiredReplicaPlacement.{DesiredReplicaPlacement}
 use Rattle.standing.specs.Standing.{hostFound, labelIn, foundLabel}
 use Rattle.standing.proofs.Turns.{at-first, at-second, at-third}
-use Rattle.standing.proofs.Unstored.{row-same}
+use Rattle.laws.proofs.KeyedLaws.{row-same}
 
 -- ---- of an absent label nothing but its absence counts
 

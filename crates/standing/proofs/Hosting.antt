@@ -22,7 +22,7 @@ use Rattle.metadata.specs.declared.DesiredReplica.{DesiredReplica}
 use Rattle.metadata.specs.declared.RetiredReplicaLifetime.{RetiredReplicaLifetime}
 use Rattle.metadata.proofs.Judging as J
 use Rattle.standing.specs.Standing.{hostFound}
-use Rattle.standing.proofs.Filling as F
+use Rattle.laws.proofs.Filling as F
 
 -- ---- the hosts, looked up
 

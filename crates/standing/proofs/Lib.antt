@@ -1,7 +1,5 @@
 -- The laws that belong to no one function. Assumes nothing.
 pub mod Checks
 pub mod Domains
-pub mod Filling
 pub mod Hosting
 pub mod Turns
-pub mod Unstored

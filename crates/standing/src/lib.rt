@@ -25,8 +25,8 @@ use metadata::is_applied;
 use node_rows::lookup_node;
 use records::no_label;
 use records::zero_node;
-use rows::NodeFound;
 use retirements::is_replica_retired;
+use rows::NodeFound;
 
 // ---- one replica
 

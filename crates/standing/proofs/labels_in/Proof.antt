@@ -2,7 +2,7 @@
 use Prim.Native.Nat.{_-_}
 use Rattle.metadata.specs.Rooms.{replicaRoom}
 use Rattle.standing.specs.Standing.{foundLabel}
-use Rattle.standing.proofs.Filling.{Filling, filling}
+use Rattle.laws.proofs.Filling.{Filling, filling}
 use Rattle.standing.proofs.Hosting.{noHost}
 use Rattle.standing.proofs.labels_in.Statement.{statement}
 use Rattle.standing.proofs.labels_in.Tie as tie
