@@ -6,7 +6,7 @@ use mathlib.Core.List.{List}
 use lib.ListN.{length}
 use borrow.Author.Tests.{not-true, not-false}
 use Rattle.laws.specs.Keyed.{has, row}
-use Rattle.laws.proofs.KeyedLaws.{row-either}
+use Rattle.laws.proofs.KeyedLaws.{row-either, row-same}
 use Rattle.rows.specs.declared.TabletFound.{TabletFound}
 use Rattle.rows.specs.declared.PlacementFound.{PlacementFound}
 use Rattle.rows.proofs.Lookup.{full-test}
@@ -28,7 +28,6 @@ use Rattle.metadata.specs.declared.Retirements.{Retirements}
 use Rattle.metadata.proofs.AnswerLaws.{stop, go-on, past, here}
 use Rattle.standing.specs.Standing.{judgeStanding}
 use Rattle.standing.proofs.Turns.{three-then}
-use Rattle.laws.proofs.KeyedLaws.{row-same}
 use Rattle.placements.specs.Copies.{judgeEpochAfter, judgeRoom, judgeChange, isStored}
 
 -- ---- the stored placement, as the lookup gave it
