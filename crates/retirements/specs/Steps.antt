@@ -1,6 +1,7 @@
 -- Steps of the checks of a retirement that have a function of their own here, by the rows that were looked up. Assumes nothing.
 use Prim.Native.Nat.{ℕ}
 use mathlib.Core.Bool.{Bool, not, cond}
+use mathlib.Core.List.{List, [], _∷_}
 use lib.Dec.{eqb}
 use Rattle.metadata.specs.Rooms.{retirementRoom}
 use Rattle.metadata.specs.Answers.{_⊳_, refuse}
@@ -9,6 +10,11 @@ use Rattle.metadata.specs.declared.Answer.{Answer}
 use Rattle.metadata.specs.declared.Answer.the-variants as A
 use Rattle.metadata.specs.declared.TabletId.{TabletId}
 use Rattle.metadata.specs.declared.RetiredReplicaLifetime.{RetiredReplicaLifetime}
+
+-- the numbers of the rows that are of a group
+unfoldable pub retiredNumbers : ℕ → List RetiredReplicaLifetime → List ℕ
+retiredNumbers group [] = []
+retiredNumbers group (x ∷ l) = cond (eqb (x .«raft_group_id» .0) group) (x .«replica_id» .0 ∷ retiredNumbers group l) (retiredNumbers group l)
 
 -- judgeKnownRetirement, where the row is at hand
 abbrev pub judgeKnownRow : RetiredReplicaLifetime → RetiredReplicaLifetime → Answer

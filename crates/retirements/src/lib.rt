@@ -2,7 +2,7 @@
 ghost use mathlib.Core.Path.{_≡_};
 ghost use mathlib.Core.Bool.{true, cond};
 ghost use lib.Dec.{leb};
-ghost use lib.ListN.{length};
+ghost use lib.ListN.{length, take};
 ghost use Rattle.laws.specs.Keyed.{put};
 ghost use Rattle.metadata.specs.Rooms.{retirementRoom};
 ghost use Rattle.metadata.specs.Answers.{isApplied};
@@ -11,7 +11,7 @@ ghost use Rattle.metadata.specs.Commands.{retirement};
 ghost use Rattle.metadata.specs.Tablets.{isReplicaRetired, desires, judgeRetirement};
 ghost use Rattle.metadata.specs.Model.{viewTablets, viewPlacements, viewRetirements, packRetirements, decided};
 ghost use Rattle.metadata.specs.Sound.{soundTable};
-ghost use Rattle.retirements.specs.Steps.{judgeKnownRow, judgeNewRow};
+ghost use Rattle.retirements.specs.Steps.{retiredNumbers, judgeKnownRow, judgeNewRow};
 use admission::retirement_reason;
 use laws::Found;
 use metadata::Answer;
@@ -35,6 +35,12 @@ use retirement_rows::lookup_retirement;
 use rows::PlacementFound;
 use tablet_rows::lookup_group;
 
+// The numbers that are retired in a group: the first count places are used.
+pub struct Numbers {
+    pub count: usize,
+    pub ids: [u64; RETIREMENT_ROOM],
+}
+
 // Retired in its group: the one test for it.
 pub fn is_replica_retired(group: RaftGroupId, replica: ReplicaId, retirements: Retirements) -> bool
     ensures { λ r. ⌜ r ≡ isReplicaRetired (group .0) (replica .0) (viewRetirements retirements) ⌝ }
@@ -43,6 +49,30 @@ pub fn is_replica_retired(group: RaftGroupId, replica: ReplicaId, retirements: R
         return false;
     };
     true
+}
+
+// All numbers that are retired in a group, so that the table is walked once for all replicas of a placement.
+pub fn retired_numbers(group: RaftGroupId, retirements: Retirements) -> Numbers
+    ensures { λ r. ⌜ take (r .count) (r .ids) ≡ retiredNumbers (group .0) (viewRetirements retirements) ⌝ }
+{
+    let rows = retirements.rows;
+    let to = retirements.count;
+    let mut ids = [0; RETIREMENT_ROOM];
+    let mut count: usize = 0;
+    let mut i: usize = 0;
+    while i < to {
+        if RETIREMENT_ROOM <= i {
+            return Numbers { count, ids };
+        }
+        if rows[i].raft_group_id.0 == group.0 {
+            ids[count] = rows[i].replica_id.0;
+            count += 1;
+            i += 1;
+        } else {
+            i += 1;
+        }
+    }
+    Numbers { count, ids }
 }
 
 // The replica number is desired.
