@@ -29,10 +29,10 @@ use node_rows::find_node;
 use node_rows::lookup_node;
 use node_rows::node_at;
 use node_rows::with_node;
-use placement_rows::find_id;
 use placement_rows::placement_ids;
 use records::with_lifecycle;
 use rows::NodeFound;
+use rows::find_id;
 use rows::place;
 
 // 0 Active, 1 Draining, 2 Decommissioning, 3 Decommissioned, 4 Tombstoned.

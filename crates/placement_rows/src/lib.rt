@@ -1,8 +1,7 @@
 // The placements: rows that rise by their tablet's id.
 ghost use mathlib.Core.Path.{_≡_};
 ghost use mathlib.Core.List.{map};
-ghost use Prim.Native.Nat.{ℕ, _+_, _≤_, _<_};
-ghost use lib.Dec.{eqb};
+ghost use Prim.Native.Nat.{_+_, _≤_, _<_};
 ghost use lib.ListN.{take, drop, getD};
 ghost use Rattle.laws.specs.Keyed.{before, has, row};
 ghost use Rattle.laws.specs.Lists.{every};
@@ -82,24 +81,6 @@ pub fn placement_ids(t: Placements) -> [u64; TABLET_ROOM]
         i += 1;
     }
     ids
-}
-
-// Where an id stands among the first n.
-pub fn find_id(ids: &[u64], n: usize, id: u64) -> Found
-    ensures { λ r. ⌜ r ≡ findIndex (λ (x : ℕ). eqb x id) (take n (now (ids .entry))) ⌝ }
-{
-    let room = ids.len();
-    let mut i: usize = 0;
-    while i < n {
-        if room <= i {
-            return Found::Nothing;
-        }
-        if ids[i] == id {
-            return Found::At(i);
-        }
-        i += 1;
-    }
-    Found::Nothing
 }
 
 // Where the first row stands that is behind this one.

@@ -1,5 +1,5 @@
 -- The numbers that are retired in a group: the loop that gathers them, and what they tell of one replica. Assumes nothing.
-use Prim.Native.Nat.{ℕ, _+_, _≤_, _<_}
+use Prim.Native.Nat.{ℕ, suc, _+_, _≤_, _<_}
 use native.Mathlib.Numerals.{add-one}
 use native.Mathlib.Omega.{arith}
 use mathlib.Core.Path.{_≡_, refl, sym, ap, _∙_}
@@ -79,3 +79,34 @@ module _ {group n : ℕ} {l : List RetiredReplicaLifetime} where
 
 -- for `search gathering` at each need of the loop
 pub ruleset gathering = (length-mapped, gather, taken, passed, all-gathered, room-gathered, needs)
+
+-- ---- a replica is retired in the group exactly where its number is found among them
+module _ (group k : ℕ) where
+  among-go : (i : ℕ) (x : RetiredReplicaLifetime) (l : List RetiredReplicaLifetime) (t u : Bool) →
+      ((j : ℕ) → has retirementKey (group, k) l ≡ onFound (findFrom (λ (z : ℕ). eqb z k) j (retiredNumbers group l)) (λ (j : ℕ). true) false) →
+      eqb (x .«replica_id» .0) k ≡ u →
+      cond (cond t u false) true (has retirementKey (group, k) l)
+      ≡ onFound (findFrom (λ (z : ℕ). eqb z k) i (cond t (x .«replica_id» .0 ∷ retiredNumbers group l) (retiredNumbers group l))) (λ (j : ℕ). true) false
+  among-go i x l true true ih e = rw e
+  among-go i x l true false ih e = rw e (ih (suc i))
+  among-go i x l false u ih e = ih i
+
+  among-from : (i : ℕ) (l : List RetiredReplicaLifetime) → has retirementKey (group, k) l ≡ onFound (findFrom (λ (z : ℕ). eqb z k) i (retiredNumbers group l)) (λ (j : ℕ). true) false
+  unfolding retiredNumbers
+  among-from i [] = refl
+  among-from i (x ∷ l) =
+      among-go i x l (eqb (x .«raft_group_id» .0) group) (eqb (x .«replica_id» .0) k) (λ (j : ℕ). among-from j l) refl
+
+  module _ (ids : List ℕ) (f : Found) (q : f ≡ findIndex (λ (x : ℕ). eqb x k) ids) (l : List RetiredReplicaLifetime) (h : ids ≡ retiredNumbers group l) where
+    found-so : has retirementKey (group, k) l ≡ onFound f (λ (j : ℕ). true) false
+    found-so = among-from 0 l ∙ ap (λ (z : List ℕ). onFound (findIndex (λ (x : ℕ). eqb x k) z) (λ (j : ℕ). true) false) (sym h) ∙ ap (λ (z : Found). onFound z (λ (j : ℕ). true) false) (sym q)
+
+pub not-among : (k : ℕ) (ids : List ℕ) (f : Found) → f ≡ findIndex (λ (x : ℕ). eqb x k) ids → f ≡ Nothing →
+    (group : ℕ) (l : List RetiredReplicaLifetime) → ids ≡ retiredNumbers group l → false ≡ isReplicaRetired group k l
+unfolding isReplicaRetired
+not-among k ids f q e group l h = sym (found-so group k ids f q l h ∙ ap (λ (z : Found). onFound z (λ (j : ℕ). true) false) e)
+
+pub among : (k : ℕ) (ids : List ℕ) (f : Found) → f ≡ findIndex (λ (x : ℕ). eqb x k) ids → (i : ℕ) → f ≡ At i →
+    (group : ℕ) (l : List RetiredReplicaLifetime) → ids ≡ retiredNumbers group l → true ≡ isReplicaRetired group k l
+unfolding isReplicaRetired
+among k ids f q i e group l h = sym (found-so group k ids f q l h ∙ ap (λ (z : Found). onFound z (λ (j : ℕ). true) false) e)

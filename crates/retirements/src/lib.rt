@@ -1,6 +1,8 @@
 // Retirement: a replica number that is no longer desired is given up for good.
 ghost use mathlib.Core.Path.{_≡_};
 ghost use mathlib.Core.Bool.{true, cond};
+ghost use mathlib.Core.List.{List};
+ghost use Prim.Native.Nat.{ℕ};
 ghost use lib.Dec.{leb};
 ghost use lib.ListN.{length, take};
 ghost use Rattle.laws.specs.Keyed.{put};
@@ -11,6 +13,7 @@ ghost use Rattle.metadata.specs.Commands.{retirement};
 ghost use Rattle.metadata.specs.Tablets.{isReplicaRetired, desires, judgeRetirement};
 ghost use Rattle.metadata.specs.Model.{viewTablets, viewPlacements, viewRetirements, packRetirements, decided};
 ghost use Rattle.metadata.specs.Sound.{soundTable};
+ghost use Rattle.metadata.specs.declared.RetiredReplicaLifetime.{RetiredReplicaLifetime};
 ghost use Rattle.retirements.specs.Steps.{retiredNumbers, judgeKnownRow, judgeNewRow};
 use admission::retirement_reason;
 use laws::Found;
@@ -29,26 +32,16 @@ use metadata::is_applied;
 use placement_rows::lookup_placement;
 use records::same_retirement;
 use replicas::placement_holds;
-use retirement_rows::find_retirement;
 use retirement_rows::insert_retirement;
 use retirement_rows::lookup_retirement;
 use rows::PlacementFound;
+use rows::find_id;
 use tablet_rows::lookup_group;
 
 // The numbers that are retired in a group: the first count places are used.
 pub struct Numbers {
     pub count: usize,
     pub ids: [u64; RETIREMENT_ROOM],
-}
-
-// Retired in its group: the one test for it.
-pub fn is_replica_retired(group: RaftGroupId, replica: ReplicaId, retirements: Retirements) -> bool
-    ensures { λ r. ⌜ r ≡ isReplicaRetired (group .0) (replica .0) (viewRetirements retirements) ⌝ }
-{
-    let Found::At(_) = find_retirement(retirements, group, replica) else {
-        return false;
-    };
-    true
 }
 
 // All numbers that are retired in a group, so that the table is walked once for all replicas of a placement.
@@ -73,6 +66,16 @@ pub fn retired_numbers(group: RaftGroupId, retirements: Retirements) -> Numbers
         }
     }
     Numbers { count, ids }
+}
+
+// Retired in its group, the one test for it: the first n ids are the numbers that are retired there.
+pub fn is_replica_retired(ids: &[u64], n: usize, replica: ReplicaId) -> bool
+    ensures { λ r. ⌜ ((group : ℕ) (retirements : List RetiredReplicaLifetime) → take n (now (ids .entry)) ≡ retiredNumbers group retirements → r ≡ isReplicaRetired group (replica .0) retirements) ⌝ }
+{
+    let Found::At(_) = find_id(ids, n, replica.0) else {
+        return false;
+    };
+    true
 }
 
 // The replica number is desired.

@@ -1,6 +1,9 @@
 // What the five tables share: a crate for each is above this one.
 ghost use mathlib.Core.Path.{_≡_};
-ghost use Rattle.laws.specs.Rows.{orElse};
+ghost use Prim.Native.Nat.{ℕ};
+ghost use lib.Dec.{eqb};
+ghost use lib.ListN.{take};
+ghost use Rattle.laws.specs.Rows.{findIndex, orElse};
 use laws::Found;
 use metadata::DesiredReplicaPlacement;
 use metadata::NodeDescriptor;
@@ -74,4 +77,22 @@ pub fn place(f: Found, n: usize) -> usize
         Found::At(i) => i,
         Found::Nothing => n,
     }
+}
+
+// Where an id stands among the first n.
+pub fn find_id(ids: &[u64], n: usize, id: u64) -> Found
+    ensures { λ r. ⌜ r ≡ findIndex (λ (x : ℕ). eqb x id) (take n (now (ids .entry))) ⌝ }
+{
+    let room = ids.len();
+    let mut i: usize = 0;
+    while i < n {
+        if room <= i {
+            return Found::Nothing;
+        }
+        if ids[i] == id {
+            return Found::At(i);
+        }
+        i += 1;
+    }
+    Found::Nothing
 }

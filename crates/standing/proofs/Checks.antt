@@ -23,8 +23,10 @@ use Rattle.metadata.specs.declared.OptionalLabel.{OptionalLabel}
 use Rattle.metadata.specs.declared.NodeDescriptor.{NodeDescriptor}
 use Rattle.metadata.specs.declared.DesiredReplica.{DesiredReplica}
 use Rattle.metadata.specs.declared.DesiredReplicaPlacement.{DesiredReplicaPlacement}
+use Rattle.metadata.specs.declared.RetiredReplicaLifetime.{RetiredReplicaLifetime}
 use Rattle.metadata.specs.declared.Nodes.{Nodes}
 use Rattle.metadata.specs.declared.Retirements.{Retirements}
+use Rattle.retirements.specs.Steps.{retiredNumbers}
 use Rattle.standing.specs.Standing.{hostFound, judgeStanding}
 use Rattle.standing.proofs.Turns.{at-first, at-second, at-third}
 
@@ -34,40 +36,40 @@ host-row : (nodes : List NodeDescriptor) (k : ℕ) (n : NodeFound) → n .there 
 host-row nodes k n s g h = g ∙ row-either nodeKey zeroNode blankNode k nodes (sym s ∙ not-false (n .there) h)
 
 -- ---- a replica
-module _ (host : NodeFound) (retirements : Retirements) (old : DesiredReplicaPlacement) (group : RaftGroupId) (class : OptionalLabel) (r : DesiredReplica) where
+module _ (host : NodeFound) (old : DesiredReplicaPlacement) (group : RaftGroupId) (class : OptionalLabel) (r : DesiredReplica) (retired : Bool) where
   -- the check of this replica
-  abbrev this : List NodeDescriptor → Answer
-  this nodes = judgeReplica nodes (viewRetirements retirements) (desired old) group class r
+  abbrev this : List NodeDescriptor → List RetiredReplicaLifetime → Answer
+  this nodes retirements = judgeReplica nodes retirements (desired old) group class r
 
   host-there : (nodes : List NodeDescriptor) → host ≡ hostFound nodes r → host .there ≡ has nodeKey (r .«node_id» .0) nodes
   host-there nodes s = ap (λ (n : NodeFound). n .there) s
 
-  pub replica-unknown : not (host .there) ≡ true → (nodes : List NodeDescriptor) → host ≡ hostFound nodes r → A.UnknownNode (r .«node_id») ≡ this nodes
+  pub replica-unknown : not (host .there) ≡ true → (nodes : List NodeDescriptor) (retirements : List RetiredReplicaLifetime) → host ≡ hostFound nodes r → retired ≡ isReplicaRetired (group .0) (r .«replica_id» .0) retirements → A.UnknownNode (r .«node_id») ≡ this nodes retirements
   unfolding judgeReplica _⊳_ refuse
-  replica-unknown e nodes s = rw (← host-there nodes s, not-true (host .there) e)
+  replica-unknown e nodes retirements s q₃ = rw (← host-there nodes s, not-true (host .there) e)
 
   module _ (e : not (host .there) ≡ false) (w : Bool) (q : w ≡ standsAlready r (desired old)) (b : Bool) (q₁ : b ≡ eligible (host .row .lifecycle) w) where
     replica-row : (nodes : List NodeDescriptor) → host ≡ hostFound nodes r → host .row ≡ nodeOf (r .«node_id» .0) nodes
     replica-row nodes s = host-row nodes (r .«node_id» .0) host (host-there nodes s) (ap (λ (n : NodeFound). n .row) s) e
 
-    pub replica-idle : not b ≡ true → (nodes : List NodeDescriptor) → host ≡ hostFound nodes r → A.NodeNotEligible (r .«node_id») (host .row .lifecycle) ≡ this nodes
+    pub replica-idle : not b ≡ true → (nodes : List NodeDescriptor) (retirements : List RetiredReplicaLifetime) → host ≡ hostFound nodes r → retired ≡ isReplicaRetired (group .0) (r .«replica_id» .0) retirements → A.NodeNotEligible (r .«node_id») (host .row .lifecycle) ≡ this nodes retirements
     unfolding judgeReplica _⊳_ refuse
-    replica-idle h nodes s = rw (← host-there nodes s, not-false (host .there) e, ← replica-row nodes s, ← q, ← q₁, not-true b h)
+    replica-idle h nodes retirements s q₃ = rw (← host-there nodes s, not-false (host .there) e, ← replica-row nodes s, ← q, ← q₁, not-true b h)
 
     module _ (h : not b ≡ false) (d : Bool) (q₂ : d ≡ classDiffers class (host .row)) where
-      pub replica-class : d ≡ true → (nodes : List NodeDescriptor) → host ≡ hostFound nodes r → A.PlacementStorageClassMismatch (r .«node_id») ≡ this nodes
+      pub replica-class : d ≡ true → (nodes : List NodeDescriptor) (retirements : List RetiredReplicaLifetime) → host ≡ hostFound nodes r → retired ≡ isReplicaRetired (group .0) (r .«replica_id» .0) retirements → A.PlacementStorageClassMismatch (r .«node_id») ≡ this nodes retirements
       unfolding judgeReplica _⊳_ refuse
-      replica-class h₁ nodes s = rw (← host-there nodes s, not-false (host .there) e, ← replica-row nodes s, ← q, ← q₁, not-false b h, ← q₂, h₁)
+      replica-class h₁ nodes retirements s q₃ = rw (← host-there nodes s, not-false (host .there) e, ← replica-row nodes s, ← q, ← q₁, not-false b h, ← q₂, h₁)
 
-      module _ (h₁ : d ≡ false) (x : Bool) (q₃ : x ≡ isReplicaRetired (group .0) (r .«replica_id» .0) (viewRetirements retirements)) where
-        pub replica-retired : x ≡ true → (nodes : List NodeDescriptor) → host ≡ hostFound nodes r → A.RetiredReplicaReuse group (r .«replica_id») ≡ this nodes
+      module _ (h₁ : d ≡ false) where
+        pub replica-retired : retired ≡ true → (nodes : List NodeDescriptor) (retirements : List RetiredReplicaLifetime) → host ≡ hostFound nodes r → retired ≡ isReplicaRetired (group .0) (r .«replica_id» .0) retirements → A.RetiredReplicaReuse group (r .«replica_id») ≡ this nodes retirements
         unfolding judgeReplica _⊳_ refuse
-        replica-retired h₂ nodes s =
+        replica-retired h₂ nodes retirements s q₃ =
             rw (← host-there nodes s, not-false (host .there) e, ← replica-row nodes s, ← q, ← q₁, not-false b h, ← q₂, h₁, ← q₃, h₂)
 
-        pub replica-passes : x ≡ false → (nodes : List NodeDescriptor) → host ≡ hostFound nodes r → A.Applied ≡ this nodes
+        pub replica-passes : retired ≡ false → (nodes : List NodeDescriptor) (retirements : List RetiredReplicaLifetime) → host ≡ hostFound nodes r → retired ≡ isReplicaRetired (group .0) (r .«replica_id» .0) retirements → A.Applied ≡ this nodes retirements
         unfolding judgeReplica _⊳_ refuse
-        replica-passes h₂ nodes s =
+        replica-passes h₂ nodes retirements s q₃ =
             rw (← host-there nodes s, not-false (host .there) e, ← replica-row nodes s, ← q, ← q₁, not-false b h, ← q₂, h₁, ← q₃, h₂)
 
 -- ---- a preferred leader
@@ -104,22 +106,22 @@ module _ (domain required seen : ℕ) where
 
 -- ---- the three in turn
 module _ (nodes : Nodes) (retirements : Retirements) (old : DesiredReplicaPlacement) (group : RaftGroupId) (p : DesiredReplicaPlacement) (on : List NodeFound)
-    (h : take (p .«replica_count») on ≡ map (hostFound (viewNodes nodes)) (desired p))
+    (h : take (p .«replica_count») on ≡ map (hostFound (viewNodes nodes)) (desired p)) (ids : List ℕ) (r : ids ≡ retiredNumbers (group .0) (viewRetirements retirements))
     (a : Answer)
-    (q : (nodes : List NodeDescriptor) → take (p .«replica_count») on ≡ map (hostFound nodes) (desired p) →
-    a ≡ each (judgeReplica nodes (viewRetirements retirements) (desired old) group (p .«placement_policy» .«required_storage_class»)) (desired p))
+    (q : (nodes : List NodeDescriptor) (retirements : List RetiredReplicaLifetime) → take (p .«replica_count») on ≡ map (hostFound nodes) (desired p) →
+    ids ≡ retiredNumbers (group .0) retirements → a ≡ each (judgeReplica nodes retirements (desired old) group (p .«placement_policy» .«required_storage_class»)) (desired p))
     (b : Bool) (t : b ≡ isApplied a) where
   -- the whole check
   abbrev standing : Answer
   standing = judgeStanding (viewNodes nodes) (viewRetirements retirements) (desired old) group p
 
   pub copies-refused : not b ≡ true → a ≡ standing
-  copies-refused f = at-first _ _ _ a (q (viewNodes nodes) h) b t f
+  copies-refused f = at-first _ _ _ a (q (viewNodes nodes) (viewRetirements retirements) h r) b t f
 
   module _ (f : not b ≡ false) (a₁ : Answer) (q₁ : a₁ ≡ each (judgeLeader (viewNodes nodes)) (leaders (p .«placement_policy»))) (b₁ : Bool) (t₁ : b₁ ≡ isApplied a₁) where
     pub leaders-refused : not b₁ ≡ true → a₁ ≡ standing
-    leaders-refused f₁ = at-second _ _ _ a (q (viewNodes nodes) h) b t f a₁ q₁ b₁ t₁ f₁
+    leaders-refused f₁ = at-second _ _ _ a (q (viewNodes nodes) (viewRetirements retirements) h r) b t f a₁ q₁ b₁ t₁ f₁
 
     pub domains-judged : not b₁ ≡ false → (a₂ : Answer) →
         ((nodes : List NodeDescriptor) → take (p .«replica_count») on ≡ map (hostFound nodes) (desired p) → a₂ ≡ judgeDomains nodes p) → a₂ ≡ standing
-    domains-judged f₁ a₂ q₂ = at-third _ _ _ a (q (viewNodes nodes) h) b t f a₁ q₁ b₁ t₁ f₁ a₂ (q₂ (viewNodes nodes) h)
+    domains-judged f₁ a₂ q₂ = at-third _ _ _ a (q (viewNodes nodes) (viewRetirements retirements) h r) b t f a₁ q₁ b₁ t₁ f₁ a₂ (q₂ (viewNodes nodes) h)

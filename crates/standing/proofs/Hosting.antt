@@ -12,6 +12,7 @@ use Rattle.rows.specs.declared.NodeFound.{NodeFound}
 use Rattle.metadata.specs.Rooms.{replicaRoom}
 use Rattle.metadata.specs.Answers.{isApplied, each}
 use Rattle.metadata.specs.Tables.{nodeKey, blankNode, zeroNode, zeroReplica}
+use Rattle.metadata.specs.Tablets.{isReplicaRetired}
 use Rattle.metadata.specs.Placements.{judgeReplica}
 use Rattle.metadata.specs.declared.Answer.{Answer}
 use Rattle.metadata.specs.declared.Answer.the-variants.{Applied}
@@ -21,6 +22,7 @@ use Rattle.metadata.specs.declared.NodeDescriptor.{NodeDescriptor}
 use Rattle.metadata.specs.declared.DesiredReplica.{DesiredReplica}
 use Rattle.metadata.specs.declared.RetiredReplicaLifetime.{RetiredReplicaLifetime}
 use Rattle.metadata.proofs.Judging as J
+use Rattle.retirements.specs.Steps.{retiredNumbers}
 use Rattle.standing.specs.Standing.{hostFound}
 use Rattle.laws.proofs.Filling as F
 
@@ -49,39 +51,47 @@ at-same d e f n on l i room wide h a r =
     ∙ List·getD-map f (take n l) i d
     ∙ ap f (getD-take n l i d a)
 
-module _ (retirements : List RetiredReplicaLifetime) (old : List DesiredReplica) (group : RaftGroupId) (class : OptionalLabel) where
+module _ (old : List DesiredReplica) (group : RaftGroupId) (class : OptionalLabel) where
   -- the check of one replica
-  abbrev check : List NodeDescriptor → DesiredReplica → Answer
-  check nodes = judgeReplica nodes retirements old group class
+  abbrev check : List NodeDescriptor → List RetiredReplicaLifetime → DesiredReplica → Answer
+  check nodes retirements = judgeReplica nodes retirements old group class
 
-  -- over all nodes among which the lookups gave on, the loop is at place i
-  pub record Hosting (n : ℕ) (on : List NodeFound) (l : List DesiredReplica) (i : ℕ) : Type 0 where
+  -- over all nodes among which the lookups gave on, and all retirements of which ids are the group's numbers, the loop is at place i
+  pub record Hosting (n : ℕ) (on : List NodeFound) (ids : List ℕ) (l : List DesiredReplica) (i : ℕ) : Type 0 where
     pub wide : length on ≡ replicaRoom
-    pub judged : (nodes : List NodeDescriptor) → take n on ≡ map (hostFound nodes) (take n l) → J.Judging zeroReplica (check nodes) replicaRoom n l i
+    pub judged : (nodes : List NodeDescriptor) (retirements : List RetiredReplicaLifetime) → take n on ≡ map (hostFound nodes) (take n l) → ids ≡ retiredNumbers (group .0) retirements →
+        J.Judging zeroReplica (check nodes retirements) replicaRoom n l i
 
-module _ {retirements : List RetiredReplicaLifetime} {old : List DesiredReplica} {group : RaftGroupId} {class : OptionalLabel} {n : ℕ} {on : List NodeFound}
-    {l : List DesiredReplica} where
-  pub start : length on ≡ replicaRoom → length l ≡ replicaRoom → Hosting retirements old group class n on l 0
-  start wide long = record { wide = wide; judged = λ nodes h. J.start long }
+module _ {old : List DesiredReplica} {group : RaftGroupId} {class : OptionalLabel} {n : ℕ} {on : List NodeFound} {ids : List ℕ} {l : List DesiredReplica} where
+  pub start : length on ≡ replicaRoom → length l ≡ replicaRoom → Hosting old group class n on ids l 0
+  start wide long = record { wide = wide; judged = λ nodes retirements h g. J.start long }
 
-  module _ {i : ℕ} (s : Hosting retirements old group class n on l i) where
-    module _ {a : Answer} {b : Bool} (h : i < n) (r : i < replicaRoom)
-        (q : (nodes : List NodeDescriptor) → getD on i noHost ≡ hostFound nodes (getD l i zeroReplica) → a ≡ check retirements old group class nodes (getD l i zeroReplica))
+  module _ {i : ℕ} (s : Hosting old group class n on ids l i) where
+    module _ {a : Answer} {b retired : Bool} (h : i < n) (r : i < replicaRoom)
+        (x : (group : ℕ) (retirements : List RetiredReplicaLifetime) → ids ≡ retiredNumbers group retirements → retired ≡ isReplicaRetired group (getD l i zeroReplica .«replica_id» .0) retirements)
+        (q : (nodes : List NodeDescriptor) (retirements : List RetiredReplicaLifetime) → getD on i noHost ≡ hostFound nodes (getD l i zeroReplica) →
+        retired ≡ isReplicaRetired (group .0) (getD l i zeroReplica .«replica_id» .0) retirements → a ≡ check old group class nodes retirements (getD l i zeroReplica))
         (t : b ≡ isApplied a) where
-      here : (nodes : List NodeDescriptor) → take n on ≡ map (hostFound nodes) (take n l) → a ≡ check retirements old group class nodes (getD l i zeroReplica)
-      here nodes g = q nodes (at-same zeroReplica noHost (hostFound nodes) n on l i replicaRoom (s .wide) g h r)
+      here : (nodes : List NodeDescriptor) (retirements : List RetiredReplicaLifetime) → take n on ≡ map (hostFound nodes) (take n l) → ids ≡ retiredNumbers (group .0) retirements →
+          a ≡ check old group class nodes retirements (getD l i zeroReplica)
+      here nodes retirements g y =
+          q nodes retirements (at-same zeroReplica noHost (hostFound nodes) n on l i replicaRoom (s .wide) g h r) (x (group .0) retirements y)
 
-      pub pass : b ≡ true → Hosting retirements old group class n on l (i + 1)
-      pass e = record { wide = s .wide; judged = λ nodes g. J.pass (s .judged nodes g) h r (here nodes g) t e }
+      pub pass : b ≡ true → Hosting old group class n on ids l (i + 1)
+      pass e =
+          record { wide = s .wide; judged = λ nodes retirements g y. J.pass (s .judged nodes retirements g y) h r (here nodes retirements g y) t e }
 
-      pub refuse-here : b ≡ false → (nodes : List NodeDescriptor) → take n on ≡ map (hostFound nodes) (take n l) → a ≡ each (check retirements old group class nodes) (take n l)
-      refuse-here e nodes g = J.refuse-here (s .judged nodes g) h r (here nodes g) t e
+      pub refuse-here : b ≡ false → (nodes : List NodeDescriptor) (retirements : List RetiredReplicaLifetime) → take n on ≡ map (hostFound nodes) (take n l) →
+          ids ≡ retiredNumbers (group .0) retirements → a ≡ each (check old group class nodes retirements) (take n l)
+      refuse-here e nodes retirements g y = J.refuse-here (s .judged nodes retirements g y) h r (here nodes retirements g y) t e
 
-    pub ended : n ≤ i → (nodes : List NodeDescriptor) → take n on ≡ map (hostFound nodes) (take n l) → Applied ≡ each (check retirements old group class nodes) (take n l)
-    ended h nodes g = J.ended (s .judged nodes g) h
+    pub ended : n ≤ i → (nodes : List NodeDescriptor) (retirements : List RetiredReplicaLifetime) → take n on ≡ map (hostFound nodes) (take n l) →
+        ids ≡ retiredNumbers (group .0) retirements → Applied ≡ each (check old group class nodes retirements) (take n l)
+    ended h nodes retirements g y = J.ended (s .judged nodes retirements g y) h
 
-    pub full : replicaRoom ≤ i → (nodes : List NodeDescriptor) → take n on ≡ map (hostFound nodes) (take n l) → Applied ≡ each (check retirements old group class nodes) (take n l)
-    full h nodes g = J.full (s .judged nodes g) h
+    pub full : replicaRoom ≤ i → (nodes : List NodeDescriptor) (retirements : List RetiredReplicaLifetime) → take n on ≡ map (hostFound nodes) (take n l) →
+        ids ≡ retiredNumbers (group .0) retirements → Applied ≡ each (check old group class nodes retirements) (take n l)
+    full h nodes retirements g y = J.full (s .judged nodes retirements g y) h
 
 -- for `search hosting` at each need of the loop that judges
 pub ruleset hosting = (length-mapped, start, pass, refuse-here, ended, full, needs)

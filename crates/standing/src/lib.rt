@@ -7,7 +7,10 @@ ghost use Rattle.metadata.specs.Labels.{distinct};
 ghost use Rattle.metadata.specs.Tables.{desired, leaders};
 ghost use Rattle.metadata.specs.Model.{viewNodes, viewRetirements};
 ghost use Rattle.metadata.specs.Placements.{standsAlready, eligible, classDiffers, judgeReplica, judgeLeader, judgeDomain, judgeDomains};
+ghost use Rattle.metadata.specs.Tablets.{isReplicaRetired};
 ghost use Rattle.metadata.specs.declared.NodeDescriptor.{NodeDescriptor};
+ghost use Rattle.metadata.specs.declared.RetiredReplicaLifetime.{RetiredReplicaLifetime};
+ghost use Rattle.retirements.specs.Steps.{retiredNumbers};
 ghost use Rattle.standing.specs.Standing.{samePlace, hostFound, labelIn, foundLabel, judgeStanding};
 use labels::distinct_labels;
 use metadata::Answer;
@@ -25,7 +28,9 @@ use metadata::is_applied;
 use node_rows::lookup_node;
 use records::no_label;
 use records::zero_node;
+use retirements::Numbers;
 use retirements::is_replica_retired;
+use retirements::retired_numbers;
 use rows::NodeFound;
 
 // ---- one replica
@@ -67,16 +72,16 @@ pub fn class_differs(class: OptionalLabel, n: NodeDescriptor) -> bool
     class.present & !fields::same_label(n.storage_class, class.text)
 }
 
-// 17, 26, 27 and 28, for one replica, over all nodes among which its lookup gave host; old is the stored placement.
+// 17, 26, 27 and 28, for one replica, over all nodes among which its lookup gave host; old is the stored placement, retired whether the replica is.
 pub fn judge_replica(
     host: NodeFound,
-    retirements: Retirements,
+    retired: bool,
     old: DesiredReplicaPlacement,
     group: RaftGroupId,
     class: OptionalLabel,
     r: DesiredReplica,
 ) -> Answer
-    ensures { λ a. ⌜ ((nodes : List NodeDescriptor) → host ≡ hostFound nodes r → a ≡ judgeReplica nodes (viewRetirements retirements) (desired old) group class r) ⌝ }
+    ensures { λ a. ⌜ ((nodes : List NodeDescriptor) (retirements : List RetiredReplicaLifetime) → host ≡ hostFound nodes r → retired ≡ isReplicaRetired (group .0) (r .«replica_id» .0) retirements → a ≡ judgeReplica nodes retirements (desired old) group class r) ⌝ }
 {
     let node = r.node_id;
     let replica = r.replica_id;
@@ -92,31 +97,35 @@ pub fn judge_replica(
     if class_differs(class, n) {
         return Answer::PlacementStorageClassMismatch(node);
     }
-    if is_replica_retired(group, replica, retirements) {
+    if retired {
         return Answer::RetiredReplicaReuse(group, replica);
     }
     Answer::Applied
 }
 
-// The same for each replica, with its host at its place in on.
+// The same for each replica, with its host at its place in on; numbers has all that are retired in the group.
 pub fn judge_replicas(
     on: [NodeFound; REPLICA_ROOM],
-    retirements: Retirements,
+    numbers: Numbers,
     old: DesiredReplicaPlacement,
     group: RaftGroupId,
     p: DesiredReplicaPlacement,
 ) -> Answer
-    ensures { λ a. ⌜ ((nodes : List NodeDescriptor) → take (p .«replica_count») on ≡ map (hostFound nodes) (desired p) → a ≡ each (judgeReplica nodes (viewRetirements retirements) (desired old) group (p .«placement_policy» .«required_storage_class»)) (desired p)) ⌝ }
+    ensures { λ a. ⌜ ((nodes : List NodeDescriptor) (retirements : List RetiredReplicaLifetime) → take (p .«replica_count») on ≡ map (hostFound nodes) (desired p) → take (numbers .count) (numbers .ids) ≡ retiredNumbers (group .0) retirements → a ≡ each (judgeReplica nodes retirements (desired old) group (p .«placement_policy» .«required_storage_class»)) (desired p)) ⌝ }
 {
     let replicas = p.replicas;
     let class = p.placement_policy.required_storage_class;
+    let ids = numbers.ids;
+    let last = numbers.count;
     let to = p.replica_count as usize;
     let mut i: usize = 0;
     while i < to {
         if REPLICA_ROOM <= i {
             return Answer::Applied;
         }
-        let a = judge_replica(on[i], retirements, old, group, class, replicas[i]);
+        let r = replicas[i];
+        let retired = is_replica_retired(&ids, last, r.replica_id);
+        let a = judge_replica(on[i], retired, old, group, class, r);
         if is_applied(a) {
             i += 1;
         } else {
@@ -277,7 +286,8 @@ pub fn judge_standing(
 {
     let replicas = p.replicas;
     let on = hosts_of(nodes, replicas, p.replica_count);
-    let copies = judge_replicas(on, retirements, old, group, p);
+    let numbers = retired_numbers(group, retirements);
+    let copies = judge_replicas(on, numbers, old, group, p);
     if !is_applied(copies) {
         return copies;
     }

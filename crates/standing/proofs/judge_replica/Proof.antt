@@ -22,9 +22,6 @@ class-differs-requires c κs = search needs
 returns-3 : tie.Need-returns-3
 returns-3 c = search (needs, replica-class)
 
-is-replica-retired-requires : tie.Need-is-replica-retired-requires
-is-replica-retired-requires c κs = search needs
-
 returns-4 : tie.Need-returns-4
 returns-4 c = search (needs, replica-retired)
 
@@ -41,6 +38,5 @@ judge-replica-spec =
     returns-2
     class-differs-requires
     returns-3
-    is-replica-retired-requires
     returns-4
     returns-5)

@@ -1,9 +1,9 @@
--- `placement_rows::find_id` meets its contract. Assumes nothing.
+-- `rows::find_id` meets its contract. Assumes nothing.
 use Prim.Native.Nat.{ℕ, _-_}
 use lib.Dec.{eqb}
 use Rattle.laws.proofs.Search.{Searching, searching}
-use Rattle.placement_rows.proofs.find_id.Statement.{statement}
-use Rattle.placement_rows.proofs.find_id.Tie as tie
+use Rattle.rows.proofs.find_id.Statement.{statement}
+use Rattle.rows.proofs.find_id.Tie as tie
 
 abbrev Inv-loop : tie.InvT-loop
 Inv-loop ids n id room i₀ i = Searching 0 (λ (x : ℕ). eqb x id) room n ids i
