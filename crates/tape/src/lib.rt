@@ -143,46 +143,43 @@ pub fn write_answer(out: &mut [u64], at: usize, answer: Answer)
     put(out, at + 3, operands[2]);
 }
 
-// Inner: who runs a tape shows that the command's bytes are there. What a command is answered.
-pub fn command_answer(
-    directory: Directory,
-    catalog: Catalog,
-    b: u8,
-    tape: &[u8],
-    at: usize,
-) -> Answer
+// Inner: who runs a tape shows that the command's bytes are there. What a command is answered; d and c are the store's two parts, of which a table is taken only where a command needs it.
+pub fn command_answer(d: Directory, c: Catalog, b: u8, tape: &[u8], at: usize) -> Answer
     requires { ⌜ (isCommand b ≡ true) × (at + sizeOf b ≤ length (now tape)) ⌝ }
-    ensures { λ r. ⌜ r ≡ decide (view (storeOf directory catalog)) (commandAt b (now (tape .entry)) at) ⌝ }
+    ensures { λ r. ⌜ r ≡ decide (view (storeOf d c)) (commandAt b (now (tape .entry)) at) ⌝ }
 {
-    let name = directory.cluster_id;
-    let nodes = directory.nodes;
-    let tablets = catalog.tablets;
-    let placements = catalog.placements;
-    let retirements = catalog.retirements;
+    let name = d.cluster_id;
     if b == 1 {
         return naming::decide_naming(name, decode::name_at(tape, at));
     }
     if b == 2 {
         let n = decode::node_at(tape, at);
-        return registering::decide_registering(name, nodes, tablets, placements, n);
+        return registering::decide_registering(name, d.nodes, c.tablets, c.placements, n);
     }
     if b == 3 {
         let k = NodeId(decode::number8(tape, at));
         let to = tape[at + 8];
-        return lifecycle::decide_lifecycle(name, nodes, tablets, placements, k, to);
+        return lifecycle::decide_lifecycle(name, d.nodes, c.tablets, c.placements, k, to);
     }
     if b == 4 {
-        return tablets::decide_tablet(name, catalog.tables, tablets, decode::tablet_at(tape, at));
+        return tablets::decide_tablet(name, c.tables, c.tablets, decode::tablet_at(tape, at));
     }
     if b == 5 {
         let p = decode::placement_at(tape, at);
-        return placements::decide_placement(name, nodes, tablets, placements, retirements, p);
+        return placements::decide_placement(
+            name,
+            d.nodes,
+            c.tablets,
+            c.placements,
+            c.retirements,
+            p,
+        );
     }
     if b == 6 {
         let x = decode::retirement_at(tape, at);
-        return retirements::decide_retirement(name, tablets, placements, retirements, x);
+        return retirements::decide_retirement(name, c.tablets, c.placements, c.retirements, x);
     }
-    labels::pick_nodes(nodes)
+    labels::pick_nodes(d.nodes)
 }
 
 // Inner: who runs a tape shows that the command was answered Applied. What naming, registering and lifecycle leave of the directory.
