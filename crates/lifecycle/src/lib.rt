@@ -31,8 +31,10 @@ use node_rows::node_at;
 use node_rows::with_node;
 use placement_rows::placement_ids;
 use records::with_lifecycle;
+use rows::LookedUp;
 use rows::NodeFound;
 use rows::find_id;
+use rows::looked;
 use rows::place;
 
 // 0 Active, 1 Draining, 2 Decommissioning, 3 Decommissioned, 4 Tombstoned.
@@ -152,9 +154,9 @@ pub fn judge_move(old: NodeFound, k: NodeId, to: u8) -> Answer
     ensures { λ r. ⌜ r ≡ judgeMove old k to ⌝ }
 {
     let from = old.row.lifecycle;
-    if !old.there {
+    let LookedUp::Row = looked(old.there) else {
         return Answer::UnknownNode(k);
-    }
+    };
     if from == to {
         return Answer::AlreadyApplied;
     }

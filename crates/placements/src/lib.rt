@@ -33,7 +33,9 @@ use placement_rows::insert_placement;
 use placement_rows::lookup_placement;
 use placement_rows::with_placement;
 use records::same_placement;
+use rows::LookedUp;
 use rows::PlacementFound;
+use rows::looked;
 use standing::judge_standing;
 use tablet_rows::lookup_tablet;
 
@@ -212,9 +214,9 @@ pub fn judge_placement(
 {
     let tablet = p.tablet_id;
     let t = lookup_tablet(tablets, tablet);
-    if !t.there {
+    let LookedUp::Row = looked(t.there) else {
         return Answer::UnknownTablet(tablet);
-    }
+    };
     let old = lookup_placement(placements, tablet);
     if is_stored(old, p) {
         return Answer::AlreadyApplied;

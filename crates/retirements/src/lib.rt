@@ -34,8 +34,10 @@ use records::same_retirement;
 use replicas::placement_holds;
 use retirement_rows::insert_retirement;
 use retirement_rows::lookup_retirement;
+use rows::LookedUp;
 use rows::PlacementFound;
 use rows::find_id;
+use rows::looked;
 use tablet_rows::lookup_group;
 
 // The numbers that are retired in a group: the first count places are used.
@@ -116,9 +118,9 @@ fn judge_new_retirement(
 {
     let stored = placed.row.configuration_epoch;
     let received = x.desired_configuration_epoch;
-    if !placed.there {
+    let LookedUp::Row = looked(placed.there) else {
         return Answer::UnknownTablet(tablet);
-    }
+    };
     if received != stored {
         return Answer::PlacementEpochMismatch(tablet, stored, received);
     }
@@ -140,9 +142,9 @@ pub fn judge_retirement(
     let group = x.raft_group_id;
     let replica = x.replica_id;
     let owner = lookup_group(tablets, group);
-    if !owner.there {
+    let LookedUp::Row = looked(owner.there) else {
         return Answer::UnknownRaftGroup(group);
-    }
+    };
     let tablet = owner.row.tablet_id;
     let placed = lookup_placement(placements, tablet);
     if desires(replica, placed.row) {

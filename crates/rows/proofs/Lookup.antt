@@ -2,7 +2,7 @@
 use Prim.Native.Nat.{ℕ, _≤_, _<_}
 use native.Mathlib.Omega.{arith}
 use mathlib.Core.Path.{_≡_, refl, sym, _∙_}
-use mathlib.Core.Bool.{Bool, true, false}
+use mathlib.Core.Bool.{Bool, true, false, not}
 use mathlib.Core.List.{List}
 use lib.Dec.{leb}
 use lib.ListN.{length, getD, take, length-take}
@@ -14,7 +14,9 @@ use Rattle.laws.specs.declared.Found.the-variants.{At, Nothing}
 use Rattle.laws.proofs.KeyedLaws.{row-absent}
 use Rattle.laws.proofs.Lookups.{found-row, found-none, has-found}
 use Rattle.laws.proofs.Search.{Searching, hit, ended, full}
-use Rattle.rows.specs.Results.{under}
+use Rattle.rows.specs.Results.{under, looked}
+use Rattle.rows.specs.declared.LookedUp.{LookedUp}
+use Rattle.rows.specs.declared.LookedUp.the-variants as L
 
 -- f is what the search among the first n rows gave
 module _ {A : Type 0} (T : Keyed A) (k : T .Key) (n : ℕ) (rows : List A) (f : Found) (q : f ≡ findIndex (under T k) (take n rows)) where
@@ -59,6 +61,15 @@ module _ {A : Type 0} (T : Keyed A) (k : T .Key) {d : A} {room n : ℕ} {l : Lis
 
   pub full-row : room ≤ i → (x z : A) → x ≡ z → x ≡ row T z k (take n l)
   full-row h x z q = no-row T k n l Nothing (full s h) x z refl q
+
+-- what `looked` gave tells whether the row is there
+pub looked-none : (b : Bool) (f : LookedUp) → f ≡ looked b → f ≡ L.Nothing → not b ≡ true
+looked-none true f q h = cc
+looked-none false f q h = refl
+
+pub looked-row : (b : Bool) (f : LookedUp) → f ≡ looked b → f ≡ L.Row → not b ≡ false
+looked-row true f q h = refl
+looked-row false f q h = cc
 
 -- the test of a full table, by its count
 pub full-test : {A : Type 0} (room n : ℕ) (rows : List A) → length rows ≡ room → leb room n ≡ leb room (length (take n rows))

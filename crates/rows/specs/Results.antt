@@ -10,6 +10,8 @@ use Rattle.metadata.specs.Rooms.{nodeRoom, tableRoom, tabletRoom, retirementRoo
 use Rattle.metadata.specs.Tables.{nodeKey, tableKey, tabletKey, placementKey, retirementKey}
 use Rattle.metadata.specs.declared.NodeDescriptor.{NodeDescriptor}
 use Rattle.metadata.specs.declared.Nodes.{Nodes}
+use Rattle.rows.specs.declared.LookedUp.{LookedUp}
+use Rattle.rows.specs.declared.LookedUp.the-variants as L
 use Rattle.rows.specs.declared.NodesWith.{NodesWith}
 use Rattle.metadata.specs.declared.TableRow.{TableRow}
 use Rattle.metadata.specs.declared.Tables.{Tables}
@@ -27,6 +29,11 @@ use Rattle.rows.specs.declared.RetirementsWith.{RetirementsWith}
 -- the row has this key
 abbrev pub under : {A : Type 0} (T : Keyed A) → T .Key → A → Bool
 under T k x = T .eq (T .key x) k
+
+-- a lookup gave a row, or nothing
+abbrev pub looked : Bool → LookedUp
+looked true = L.Row
+looked false = L.Nothing
 
 -- the rows with x at its place among the first n: the rows from n + 1 on are as they were
 abbrev pub openedRows : {A : Type 0} → ℕ → A → ℕ → List A → List A

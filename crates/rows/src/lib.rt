@@ -4,6 +4,7 @@ ghost use Prim.Native.Nat.{ℕ};
 ghost use lib.Dec.{eqb};
 ghost use lib.ListN.{take};
 ghost use Rattle.laws.specs.Rows.{findIndex, orElse};
+ghost use Rattle.rows.specs.Results.{looked};
 use laws::Found;
 use metadata::DesiredReplicaPlacement;
 use metadata::NodeDescriptor;
@@ -67,6 +68,21 @@ pub struct PlacementFound {
 pub struct RetirementFound {
     pub there: bool,
     pub row: RetiredReplicaLifetime,
+}
+
+// Whether a lookup gave a row, to be taken out of it before the rest goes on.
+pub enum LookedUp {
+    Row,
+    Nothing,
+}
+
+pub fn looked(there: bool) -> LookedUp
+    ensures { λ r. ⌜ r ≡ looked there ⌝ }
+{
+    if there {
+        return LookedUp::Row;
+    }
+    LookedUp::Nothing
 }
 
 // The place that was found, or n.

@@ -31,7 +31,9 @@ use records::zero_node;
 use retirements::Numbers;
 use retirements::is_replica_retired;
 use retirements::retired_numbers;
+use rows::LookedUp;
 use rows::NodeFound;
+use rows::looked;
 
 // ---- one replica
 
@@ -86,9 +88,9 @@ pub fn judge_replica(
     let node = r.node_id;
     let replica = r.replica_id;
     let replicas = old.replicas;
-    if !host.there {
+    let LookedUp::Row = looked(host.there) else {
         return Answer::UnknownNode(node);
-    }
+    };
     let n = host.row;
     let lifecycle = n.lifecycle;
     if !eligible(lifecycle, stands_already(r, replicas, old.replica_count)) {
@@ -141,9 +143,9 @@ pub fn judge_leader(nodes: Nodes, k: NodeId) -> Answer
     ensures { λ a. ⌜ a ≡ judgeLeader (viewNodes nodes) k ⌝ }
 {
     let n = lookup_node(nodes, k);
-    if !n.there {
+    let LookedUp::Row = looked(n.there) else {
         return Answer::UnknownNode(k);
-    }
+    };
     let lifecycle = n.row.lifecycle;
     if lifecycle == 0 {
         return Answer::Applied;

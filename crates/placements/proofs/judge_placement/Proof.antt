@@ -1,6 +1,7 @@
 -- `placements::judge_placement` meets its contract. Assumes nothing.
 use borrow.Author.Needs.{needs}
 use Rattle.laws.proofs.Rows.{length-mapped}
+use Rattle.rows.proofs.Lookup.{looked-none, looked-row}
 use Rattle.placements.proofs.Placing.{no-tablet, stored-already, stands-so, stands-not}
 use Rattle.placements.proofs.judge_placement.Statement.{statement}
 use Rattle.placements.proofs.judge_placement.Tie as tie
@@ -8,8 +9,17 @@ use Rattle.placements.proofs.judge_placement.Tie as tie
 lookup-tablet-requires : tie.Need-lookup-tablet-requires
 lookup-tablet-requires c κs = search needs
 
+looked-requires : tie.Need-looked-requires
+looked-requires c κs = search needs
+
+enum-told : tie.Need-enum-told
+enum-told c = search needs
+
+enum-told-2 : tie.Need-enum-told-2
+enum-told-2 c = search needs
+
 returns : tie.Need-returns
-returns c = search (needs, no-tablet)
+returns c = search (needs, no-tablet, looked-none)
 
 lookup-placement-requires : tie.Need-lookup-placement-requires
 lookup-placement-requires c κs = search needs
@@ -18,7 +28,7 @@ is-stored-requires : tie.Need-is-stored-requires
 is-stored-requires c κs = search needs
 
 returns-2 : tie.Need-returns-2
-returns-2 c = search (needs, stored-already)
+returns-2 c = search (needs, stored-already, looked-row)
 
 judge-standing-requires : tie.Need-judge-standing-requires
 judge-standing-requires c κs = search needs
@@ -30,16 +40,19 @@ judge-change-requires : tie.Need-judge-change-requires
 judge-change-requires c κs = search needs
 
 returns-3 : tie.Need-returns-3
-returns-3 c = search (length-mapped, stands-so, c .before .before .before .before .before .before .before .before .before .before .before .good .1 .1 .0, needs)
+returns-3 c = search (length-mapped, stands-so, c .before .before .before .before .before .before .before .before .before .before .before .before .good .1 .1 .0, needs, looked-row)
 
 returns-4 : tie.Need-returns-4
-returns-4 c = search (needs, stands-not)
+returns-4 c = search (needs, stands-not, looked-row)
 
 pub judge-placement-spec : {M : Type 1} → statement M
 judge-placement-spec =
     tie.close
     (tie.spec
     lookup-tablet-requires
+    looked-requires
+    enum-told
+    enum-told-2
     returns
     lookup-placement-requires
     is-stored-requires
