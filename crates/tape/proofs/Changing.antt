@@ -66,7 +66,7 @@ picking-plain name a = refl
 
 -- ---- which command it is
 
-bounds : (b : ℕ) → isCommand b ≡ true → (1 ≤ b) × (b ≤ 7)
+pub bounds : (b : ℕ) → isCommand b ≡ true → (1 ≤ b) × (b ≤ 7)
 bounds b k = let g = and-both (leb 1 b) (leb b 7) k in (leb-true 1 b (g .0), leb-true b 7 (g .1))
 
 seven : (b : ℕ) → isCommand b ≡ true → 4 ≤ b → (b ≡ 4 → ⊥) → (b ≡ 5 → ⊥) → (b ≡ 6 → ⊥) → b ≡ 7

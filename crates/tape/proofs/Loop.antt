@@ -56,7 +56,25 @@ use Rattle.tape.specs.Tape.{
   ran,
   ranOut,
 }
-use Rattle.tape.proofs.Changing.{Turned, turned, is-naming, is-registering, is-lifecycle, is-tablet, is-placement, is-retirement, is-picking}
+use Rattle.tape.proofs.Changing.{Turned, turned}
+use Rattle.tape.proofs.Answering.{
+  reason-naming,
+  reason-node,
+  reason-lifecycle,
+  reason-tablet,
+  reason-placement,
+  reason-retirement,
+  reason-none,
+  not-admitted,
+  on-naming,
+  on-registering,
+  on-lifecycle,
+  on-tablet,
+  on-placement,
+  on-retirement,
+  on-picking,
+  sixth-of,
+}
 use Rattle.tape.proofs.History.{accepted}
 use Rattle.metadata.proofs.Theorem.{history}
 use Rattle.tape.proofs.Reading.{whole, next-end, read-unknown, read-cut}
@@ -98,9 +116,16 @@ module _ (b : ℕ) (l : List ℕ) (at : ℕ) (h : at + sizeOf b ≤ length l) wh
   unfolding sizeOf
   room-6 e = room 6 48 e refl
 
--- for `search deciding` at each need
+-- for `search reasoning` and `search deciding` at each need
+pub ruleset reasoning =
+    (room-1, room-2, room-3, room-3-id, room-3-last, room-4, room-5, room-6, reason-naming, reason-node, reason-lifecycle, reason-tablet, reason-placement, reason-retirement, reason-none, needs)
+
+-- the sixth, where it is none of the two before it
+pub room-last : (b : ℕ) (l : List ℕ) (at : ℕ) → at + sizeOf b ≤ length l → (leb 4 b && leb b 6) ≡ true → (b ≡ 4 → ⊥) → (b ≡ 5 → ⊥) → at + 48 ≤ length l
+room-last b l at h w n4 n5 = room-6 b l at h (sixth-of b w n4 n5)
+
 pub ruleset deciding =
-    (room-1, room-2, room-3, room-3-id, room-3-last, room-4, room-5, room-6, is-naming, is-registering, is-lifecycle, is-tablet, is-placement, is-retirement, is-picking, needs)
+    (room-1, room-2, room-3, room-3-id, room-3-last, room-4, room-5, room-last, not-admitted, on-naming, on-registering, on-lifecycle, on-tablet, on-placement, on-retirement, on-picking, needs)
 
 -- x is what stands at the place
 pub known-of : (l : List ℕ) (at b m : ℕ) (x : Next) → x ≡ nextAt l at → x ≡ N.Whole b m → isCommand b ≡ true

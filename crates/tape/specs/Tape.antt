@@ -1,15 +1,15 @@
 -- The command tape (document 01): what it holds, what it is answered, and the store that is left. Assumes nothing.
 use Prim.Native.Nat.{ℕ, zero, suc, _+_, _*_, _-_, _≤_, _<_}
 use mathlib.Core.Path.{_≡_}
-use mathlib.Core.Bool.{Bool, true, false, cond, _&&_}
+use mathlib.Core.Bool.{Bool, true, false, not, cond, _&&_}
 use mathlib.Core.List.{List, [], _∷_, _++_}
 use lib.Dec.{leb, ltb, eqb}
 use lib.ListN.{length, take, drop}
 use Rattle.decode.specs.Decode.{numberAt, byteAt, nameAt, nodeAt, tabletAt, placementAt, retirementAt, tableAt, listAt}
 use Rattle.metadata.specs.Rooms.{tableRoom}
-use Rattle.metadata.specs.Answers.{reported, isApplied}
-use Rattle.metadata.specs.Commands.{Command, naming, registering, lifecycle, tablet, placement, retirement, picking}
-use Rattle.metadata.specs.Model.{decide, view, viewNodes, packNodes}
+use Rattle.metadata.specs.Answers.{reported, isApplied, _⊳_, refuse}
+use Rattle.metadata.specs.Commands.{Command, naming, registering, lifecycle, tablet, placement, retirement, picking, needsName}
+use Rattle.metadata.specs.Model.{admission, decide, view, viewNodes, packNodes}
 use Rattle.metadata.specs.Nodes.{registeredNodes, movedNodes}
 use Rattle.metadata.specs.Opening.{opening, refusedStore}
 use Rattle.metadata.specs.Sound.{sound, run, answers}
@@ -20,6 +20,7 @@ use Rattle.metadata.specs.declared.Answer.the-variants as A
 use Rattle.metadata.specs.declared.Answered.{Answered}
 use Rattle.metadata.specs.declared.Catalog.{Catalog}
 use Rattle.metadata.specs.declared.Directory.{Directory}
+use Rattle.metadata.specs.declared.OptionalName.{OptionalName}
 use Rattle.tape.specs.declared.Next.{Next}
 use Rattle.tape.specs.declared.Ran.{Ran}
 use Rattle.tape.specs.declared.Next.the-variants as N
@@ -45,6 +46,10 @@ commandAt b l at =
     (cond (eqb b 3) (lifecycle (record { 0 = numberAt 8 l at }) (byteAt l (at + 8)))
     (cond (eqb b 4) (tablet (tabletAt l at))
     (cond (eqb b 5) (placement (placementAt l at)) (cond (eqb b 6) (retirement (retirementAt l at)) picking)))))
+
+-- what is asked of a command before its own checks
+unfoldable pub admitted : OptionalName → Command → Answer
+admitted name c = admission c ⊳ refuse (needsName c && not (name .present)) A.NotInitialized
 
 -- ---- what an Applied command leaves of the store's two parts
 

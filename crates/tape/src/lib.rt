@@ -1,14 +1,16 @@
 // The command tape: decoding, one step, the run over a whole tape.
 ghost use mathlib.Core.Path.{_≡_};
-ghost use mathlib.Core.Bool.{true};
+ghost use mathlib.Core.Bool.{true, false, _&&_};
 ghost use Prim.Native.Nat.{_+_, _*_, _≤_, _<_};
+ghost use lib.Dec.{leb};
 ghost use lib.ListN.{length, set};
 ghost use Rattle.metadata.specs.Answers.{reported};
+ghost use Rattle.metadata.specs.Commands.{lowest, faults};
 ghost use Rattle.decode.specs.Decode.{tabletAt, placementAt, retirementAt};
 ghost use Rattle.metadata.specs.Model.{decide, view, raisedByTablet, raisedByPlacement};
 ghost use Rattle.placements.specs.Copies.{placementsPut};
 ghost use Rattle.rows.specs.Results.{tabletsWith, retirementsWith};
-ghost use Rattle.tape.specs.Tape.{isCommand, sizeOf, nextAt, readFrom, lines, written, commandAt, Done, openTape, cutOpening, bodyAt, ran, ranOut, TapeClaims, storeOf, directoryAfter, DirectoryChange, Operands};
+ghost use Rattle.tape.specs.Tape.{isCommand, sizeOf, admitted, nextAt, readFrom, lines, written, commandAt, Done, openTape, cutOpening, bodyAt, ran, ranOut, TapeClaims, storeOf, directoryAfter, DirectoryChange, Operands};
 ghost use Rattle.metadata.specs.Sound.{sound};
 use metadata::Answer;
 use metadata::Answered;
@@ -143,43 +145,108 @@ pub fn write_answer(out: &mut [u64], at: usize, answer: Answer)
     put(out, at + 3, operands[2]);
 }
 
-// Inner: who runs a tape shows that the command's bytes are there. What a command is answered; d and c are the store's two parts, of which a table is taken only where a command needs it.
+// Inner: who runs a tape shows that the command's bytes are there. The lowest reason that applies to a command, or 0.
+fn reason_of(b: u8, tape: &[u8], at: usize) -> u8
+    requires { ⌜ (isCommand b ≡ true) × (at + sizeOf b ≤ length (now tape)) ⌝ }
+    ensures { λ r. ⌜ r ≡ lowest (faults (commandAt b (now (tape .entry)) at)) ⌝ }
+{
+    if b == 1 {
+        return admission::naming_reason(decode::name_at(tape, at));
+    }
+    if b == 2 {
+        return admission::node_reason(decode::node_at(tape, at));
+    }
+    if b == 3 {
+        let k = NodeId(decode::number8(tape, at));
+        return admission::lifecycle_reason(k, tape[at + 8]);
+    }
+    if b == 4 {
+        return admission::tablet_reason(decode::tablet_at(tape, at));
+    }
+    if b == 5 {
+        return admission::placement_reason(decode::placement_at(tape, at));
+    }
+    if b == 6 {
+        return admission::retirement_reason(decode::retirement_at(tape, at));
+    }
+    0
+}
+
+// All but naming and the first choice.
+fn needs_name(b: u8) -> bool
+    ensures { λ r. ⌜ r ≡ (leb 2 b && leb b 6) ⌝ }
+{
+    (2 <= b) & (b <= 6)
+}
+
+// Inner: the same. What is asked before a command's own checks, so before it needs any table; Applied where these come next.
+fn admitted(name: OptionalName, b: u8, tape: &[u8], at: usize) -> Answer
+    requires { ⌜ (isCommand b ≡ true) × (at + sizeOf b ≤ length (now tape)) ⌝ }
+    ensures { λ r. ⌜ r ≡ admitted name (commandAt b (now (tape .entry)) at) ⌝ }
+{
+    let reason = reason_of(b, tape, at);
+    if reason != 0 {
+        return Answer::InvalidCommand(reason);
+    }
+    if needs_name(b) & !name.present {
+        return Answer::NotInitialized;
+    }
+    Answer::Applied
+}
+
+// Inner: the same. Naming, registering, lifecycle and the first choice; d and c are the store's two parts.
+fn directory_answer(d: Directory, c: Catalog, b: u8, tape: &[u8], at: usize) -> Answer
+    requires { ⌜ (isCommand b ≡ true) × (at + sizeOf b ≤ length (now tape)) × ((leb 4 b && leb b 6) ≡ false) ⌝ }
+    ensures { λ r. ⌜ r ≡ decide (view (storeOf d c)) (commandAt b (now (tape .entry)) at) ⌝ }
+{
+    let name = d.cluster_id;
+    let early = admitted(name, b, tape, at);
+    if !is_applied(early) {
+        return early;
+    }
+    if b == 1 {
+        return naming::judge_naming(name, decode::name_at(tape, at));
+    }
+    if b == 2 {
+        let n = decode::node_at(tape, at);
+        return registering::judge_registering(d.nodes, c.tablets, c.placements, n);
+    }
+    if b == 3 {
+        let k = NodeId(decode::number8(tape, at));
+        return lifecycle::judge_lifecycle(d.nodes, c.tablets, c.placements, k, tape[at + 8]);
+    }
+    labels::pick_nodes(d.nodes)
+}
+
+// Inner: the same. Tablets, placements and retirement.
+fn catalog_answer(d: Directory, c: Catalog, b: u8, tape: &[u8], at: usize) -> Answer
+    requires { ⌜ (isCommand b ≡ true) × (at + sizeOf b ≤ length (now tape)) × ((leb 4 b && leb b 6) ≡ true) ⌝ }
+    ensures { λ r. ⌜ r ≡ decide (view (storeOf d c)) (commandAt b (now (tape .entry)) at) ⌝ }
+{
+    let early = admitted(d.cluster_id, b, tape, at);
+    if !is_applied(early) {
+        return early;
+    }
+    if b == 4 {
+        return tablets::judge_tablet(c.tables, c.tablets, decode::tablet_at(tape, at));
+    }
+    if b == 5 {
+        let p = decode::placement_at(tape, at);
+        return placements::judge_placement(d.nodes, c.tablets, c.placements, c.retirements, p);
+    }
+    let x = decode::retirement_at(tape, at);
+    retirements::judge_retirement(c.tablets, c.placements, c.retirements, x)
+}
+
+// Inner: the same. What a command is answered.
 pub fn command_answer(d: Directory, c: Catalog, b: u8, tape: &[u8], at: usize) -> Answer
     requires { ⌜ (isCommand b ≡ true) × (at + sizeOf b ≤ length (now tape)) ⌝ }
     ensures { λ r. ⌜ r ≡ decide (view (storeOf d c)) (commandAt b (now (tape .entry)) at) ⌝ }
 {
-    let name = d.cluster_id;
-    if b == 1 {
-        return naming::decide_naming(name, decode::name_at(tape, at));
+    if (4 <= b) & (b <= 6) {
+        return catalog_answer(d, c, b, tape, at);
     }
-    if b == 2 {
-        let n = decode::node_at(tape, at);
-        return registering::decide_registering(name, d.nodes, c.tablets, c.placements, n);
-    }
-    if b == 3 {
-        let k = NodeId(decode::number8(tape, at));
-        let to = tape[at + 8];
-        return lifecycle::decide_lifecycle(name, d.nodes, c.tablets, c.placements, k, to);
-    }
-    if b == 4 {
-        return tablets::decide_tablet(name, c.tables, c.tablets, decode::tablet_at(tape, at));
-    }
-    if b == 5 {
-        let p = decode::placement_at(tape, at);
-        return placements::decide_placement(
-            name,
-            d.nodes,
-            c.tablets,
-            c.placements,
-            c.retirements,
-            p,
-        );
-    }
-    if b == 6 {
-        let x = decode::retirement_at(tape, at);
-        return retirements::decide_retirement(name, c.tablets, c.placements, c.retirements, x);
-    }
-    labels::pick_nodes(d.nodes)
+    directory_answer(d, c, b, tape, at)
 }
 
 // Inner: who runs a tape shows that the command was answered Applied. What naming, registering and lifecycle leave of the directory.
