@@ -81,46 +81,6 @@ three b k h n1 n2 = last b (bounds b k .0) h n1 n2
     last : (b : ℕ) → 1 ≤ b → b < 4 → (b ≡ 1 → ⊥) → (b ≡ 2 → ⊥) → b ≡ 3
     last b a h n1 n2 = omega arith
 
--- ---- what it is answered
-
-module _ (d : Directory) (c : Catalog) (b : ℕ) (l : List ℕ) (at : ℕ) (a : Answer) where
-  abbrev goal : Type 0
-  goal = a ≡ decide (view (storeOf d c)) (commandAt b l at)
-
-  pub is-naming : (t : Name) → b ≡ 1 → t ≡ nameAt l at → a ≡ decide (view (storeOf d c)) (naming t) → goal
-  unfolding commandAt
-  is-naming t e q p = rw e (p ∙ ap (λ (x : Name). decide (view (storeOf d c)) (naming x)) q)
-
-  pub is-registering : (n : NodeDescriptor) → b ≡ 2 → n ≡ nodeAt l at → a ≡ decide (view (storeOf d c)) (registering n) → goal
-  unfolding commandAt
-  is-registering n e q p = rw e (p ∙ ap (λ (x : NodeDescriptor). decide (view (storeOf d c)) (registering x)) q)
-
-  pub is-lifecycle : (k to : ℕ) → b ≡ 3 → k ≡ numberAt 8 l at → to ≡ byteAt l (at + 8) → a ≡ decide (view (storeOf d c)) (lifecycle (record { 0 = k }) to) → goal
-  unfolding commandAt
-  is-lifecycle k to e q w p = rw e (p ∙ rw (q, w))
-
-  pub is-tablet : (t : TabletDescriptor) → b ≡ 4 → t ≡ tabletAt l at → a ≡ decide (view (storeOf d c)) (tablet t) → goal
-  unfolding commandAt
-  is-tablet t e q p = rw e (p ∙ ap (λ (x : TabletDescriptor). decide (view (storeOf d c)) (tablet x)) q)
-
-  pub is-placement : (x : DesiredReplicaPlacement) → b ≡ 5 → x ≡ placementAt l at → a ≡ decide (view (storeOf d c)) (placement x) → goal
-  unfolding commandAt
-  is-placement x e q p = rw e (p ∙ ap (λ (y : DesiredReplicaPlacement). decide (view (storeOf d c)) (placement y)) q)
-
-  pub is-retirement : (x : RetiredReplicaLifetime) → b ≡ 6 → x ≡ retirementAt l at → a ≡ decide (view (storeOf d c)) (retirement x) → goal
-  unfolding commandAt
-  is-retirement x e q p = rw e (p ∙ ap (λ (y : RetiredReplicaLifetime). decide (view (storeOf d c)) (retirement y)) q)
-
-  pub is-picking : isCommand b ≡ true → (b ≡ 1 → ⊥) → (b ≡ 2 → ⊥) → (b ≡ 3 → ⊥) → (b ≡ 4 → ⊥) → (b ≡ 5 → ⊥) → (b ≡ 6 → ⊥) →
-      a ≡ judgePicking (viewNodes (d .nodes)) → goal
-  unfolding commandAt
-  is-picking k n1 n2 n3 n4 n5 n6 p =
-      let e : b ≡ 7 = last b (bounds b k .0) (bounds b k .1) n1 n2 n3 n4 n5 n6 in
-      rw e (p ∙ sym (picking-plain (d .«cluster_id») (judgePicking (viewNodes (d .nodes)))))
-    where
-      last : (n : ℕ) → 1 ≤ n → n ≤ 7 → (n ≡ 1 → ⊥) → (n ≡ 2 → ⊥) → (n ≡ 3 → ⊥) → (n ≡ 4 → ⊥) → (n ≡ 5 → ⊥) → (n ≡ 6 → ⊥) → n ≡ 7
-      last n a z f1 f2 f3 f4 f5 f6 = omega arith
-
 -- ---- the directory after one of the first three
 
 module _ (d : Directory) (b : ℕ) (l : List ℕ) (at : ℕ) (k : DirectoryChange d b l at) where
