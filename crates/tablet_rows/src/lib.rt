@@ -60,8 +60,8 @@ pub fn find_group(t: Tablets, group: RaftGroupId) -> Found
 }
 
 // The row under this key.
-pub fn lookup_tablet(t: Tablets, id: TabletId) -> TabletFound
-    ensures { λ r. ⌜ (r .there ≡ has tabletKey (id .0) (viewTablets t)) × (r .row ≡ row tabletKey zeroTablet (id .0) (viewTablets t)) ⌝ }
+pub fn lookup_tablet(t: Tablets, tablet: TabletId) -> TabletFound
+    ensures { λ r. ⌜ (r .there ≡ has tabletKey (tablet .0) (viewTablets t)) × (r .row ≡ row tabletKey zeroTablet (tablet .0) (viewTablets t)) ⌝ }
 {
     let rows = t.rows;
     let count = t.count;
@@ -73,7 +73,7 @@ pub fn lookup_tablet(t: Tablets, id: TabletId) -> TabletFound
                 row: zero_tablet(),
             };
         }
-        if rows[i].tablet_id.0 == id.0 {
+        if rows[i].tablet_id.0 == tablet.0 {
             return TabletFound {
                 there: true,
                 row: rows[i],
@@ -88,8 +88,8 @@ pub fn lookup_tablet(t: Tablets, id: TabletId) -> TabletFound
 }
 
 // The row under this key.
-pub fn lookup_group(t: Tablets, group: RaftGroupId) -> TabletFound
-    ensures { λ r. ⌜ (r .there ≡ has groupKey (group .0) (viewTablets t)) × (r .row ≡ row groupKey zeroTablet (group .0) (viewTablets t)) ⌝ }
+pub fn lookup_group(t: Tablets, id: RaftGroupId) -> TabletFound
+    ensures { λ r. ⌜ (r .there ≡ has groupKey (id .0) (viewTablets t)) × (r .row ≡ row groupKey zeroTablet (id .0) (viewTablets t)) ⌝ }
 {
     let rows = t.rows;
     let count = t.count;
@@ -101,7 +101,7 @@ pub fn lookup_group(t: Tablets, group: RaftGroupId) -> TabletFound
                 row: zero_tablet(),
             };
         }
-        if rows[i].raft_group_id.0 == group.0 {
+        if rows[i].raft_group_id.0 == id.0 {
             return TabletFound {
                 there: true,
                 row: rows[i],
