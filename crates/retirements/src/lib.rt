@@ -130,7 +130,7 @@ fn judge_new_retirement(
     Answer::Applied
 }
 
-// The checks of a retirement, from top to bottom; each row is looked up once.
+// The checks of a retirement, from top to bottom; each row is looked up once. The retirements are asked as soon as they come in, so that the compiler need not copy them for a later use.
 pub fn judge_retirement(
     tablets: Tablets,
     placements: Placements,
@@ -141,6 +141,8 @@ pub fn judge_retirement(
 {
     let group = x.raft_group_id;
     let replica = x.replica_id;
+    let known = lookup_retirement(retirements, group, replica);
+    let full = retirements_full(retirements);
     let owner = lookup_group(tablets, group);
     let LookedUp::Row = looked(owner.there) else {
         return Answer::UnknownRaftGroup(group);
@@ -150,11 +152,10 @@ pub fn judge_retirement(
     if desires(replica, placed.row) {
         return Answer::RetirementStillDesired(group, replica);
     }
-    let known = lookup_retirement(retirements, group, replica);
     if known.there {
         return judge_known_retirement(known.row, x);
     }
-    judge_new_retirement(tablet, placed, retirements_full(retirements), x)
+    judge_new_retirement(tablet, placed, full, x)
 }
 
 // What the handler gives: the answer, and the one table that it changes.

@@ -5,6 +5,12 @@ use Rattle.retirements.proofs.RetirementLaws.{group-unknown, still-want
 use Rattle.retirements.proofs.judge_retirement.Statement.{statement}
 use Rattle.retirements.proofs.judge_retirement.Tie as tie
 
+lookup-retirement-requires : tie.Need-lookup-retirement-requires
+lookup-retirement-requires c κs = search needs
+
+retirements-full-requires : tie.Need-retirements-full-requires
+retirements-full-requires c κs = search needs
+
 lookup-group-requires : tie.Need-lookup-group-requires
 lookup-group-requires c κs = search needs
 
@@ -29,17 +35,11 @@ desires-requires c κs = search needs
 returns-2 : tie.Need-returns-2
 returns-2 c = search (needs, still-wanted, looked-row)
 
-lookup-retirement-requires : tie.Need-lookup-retirement-requires
-lookup-retirement-requires c κs = search needs
-
 judge-known-retirement-requires : tie.Need-judge-known-retirement-requires
 judge-known-retirement-requires c κs = search needs
 
 returns-3 : tie.Need-returns-3
 returns-3 c = search (needs, retirement-known, looked-row)
-
-retirements-full-requires : tie.Need-retirements-full-requires
-retirements-full-requires c κs = search needs
 
 judge-new-retirement-requires : tie.Need-judge-new-retirement-requires
 judge-new-retirement-requires c κs = search needs
@@ -51,6 +51,8 @@ pub judge-retirement-spec : {M : Type 1} → statement M
 judge-retirement-spec =
     tie.close
     (tie.spec
+    lookup-retirement-requires
+    retirements-full-requires
     lookup-group-requires
     looked-requires
     enum-told
@@ -59,9 +61,7 @@ judge-retirement-spec =
     lookup-placement-requires
     desires-requires
     returns-2
-    lookup-retirement-requires
     judge-known-retirement-requires
     returns-3
-    retirements-full-requires
     judge-new-retirement-requires
     returns-4)
