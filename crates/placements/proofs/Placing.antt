@@ -21,11 +21,13 @@ use Rattle.metadata.specs.declared.RaftGroupId.{RaftGroupId}
 use Rattle.metadata.specs.declared.TabletDescriptor.{TabletDescriptor}
 use Rattle.metadata.specs.declared.DesiredReplica.{DesiredReplica}
 use Rattle.metadata.specs.declared.DesiredReplicaPlacement.{DesiredReplicaPlacement}
+use Rattle.metadata.specs.declared.RetiredReplicaLifetime.{RetiredReplicaLifetime}
 use Rattle.metadata.specs.declared.Nodes.{Nodes}
 use Rattle.metadata.specs.declared.Tablets.{Tablets}
 use Rattle.metadata.specs.declared.Placements.{Placements}
 use Rattle.metadata.specs.declared.Retirements.{Retirements}
 use Rattle.metadata.proofs.AnswerLaws.{stop, go-on, past, here}
+use Rattle.retirements.specs.Steps.{retiredNumbers}
 use Rattle.standing.specs.Standing.{judgeStanding}
 use Rattle.standing.proofs.Turns.{three-then}
 use Rattle.placements.specs.Copies.{judgeEpochAfter, judgeRoom, judgeChange, isStored}
@@ -77,9 +79,12 @@ module _ (nodes : Nodes) (tablets : Tablets) (placements : Placements) (retireme
     unfolding judgePlacement
     stored-already h = sym (past _ _ _ tablet-there ∙ here _ _ _ refl (sym (stored-same (viewPlacements placements) p old s₁ o) ∙ sym q ∙ h))
 
-    -- a is what the checks of where the copies may stand gave
-    module _ (h : b ≡ false) (g : t .row ≡ row tabletKey zeroTablet (p .«tablet_id» .0) (viewTablets tablets)) (a : Answer)
-        (r : a ≡ judgeStanding (viewNodes nodes) (viewRetirements retirements) (desired (old .row)) (t .row .«raft_group_id») p) (d : Bool) (u : d ≡ isApplied a) where
+    -- ids are the numbers that are retired in the group, a is what the checks of where the copies may stand gave
+    module _ (h : b ≡ false) (g : t .row ≡ row tabletKey zeroTablet (p .«tablet_id» .0) (viewTablets tablets)) (ids : List ℕ)
+        (n : ids ≡ retiredNumbers (t .row .«raft_group_id» .0) (viewRetirements retirements)) (a : Answer)
+        (r : (retirements : List RetiredReplicaLifetime) → ids ≡ retiredNumbers (t .row .«raft_group_id» .0) retirements →
+        a ≡ judgeStanding (viewNodes nodes) retirements (desired (old .row)) (t .row .«raft_group_id») p)
+        (d : Bool) (u : d ≡ isApplied a) where
       -- the replicas and the group that the model takes
       abbrev olds : List DesiredReplica
       olds = desired (placementOf (p .«tablet_id» .0) (viewPlacements placements))
@@ -94,7 +99,7 @@ module _ (nodes : Nodes) (tablets : Tablets) (placements : Placements) (retireme
 
       standing-judged : a ≡ judgeStanding (viewNodes nodes) (viewRetirements retirements) olds own p
       standing-judged =
-          r
+          r (viewRetirements retirements) n
           ∙ ap₂ (λ (l : List DesiredReplica) (k : RaftGroupId). judgeStanding (viewNodes nodes) (viewRetirements retirements) l k p)
           (same-olds (viewPlacements placements) p old s₁ o) same-own
 

@@ -33,6 +33,7 @@ use placement_rows::insert_placement;
 use placement_rows::lookup_placement;
 use placement_rows::with_placement;
 use records::same_placement;
+use retirements::retired_numbers;
 use rows::LookedUp;
 use rows::PlacementFound;
 use rows::looked;
@@ -202,7 +203,7 @@ fn judge_change(old: PlacementFound, count: usize, p: DesiredReplicaPlacement) -
     judge_room(old.there, count)
 }
 
-// 25 for a tablet that is not there; a placement that is stored already; else its own checks. Each table is searched once, and the row handed on.
+// 25 for a tablet that is not there; a placement that is stored already; else its own checks. Each table is searched once, and the row handed on; the retirements are asked as soon as the group is known, so that the compiler need not copy them for a later use.
 pub fn judge_placement(
     nodes: Nodes,
     tablets: Tablets,
@@ -213,6 +214,7 @@ pub fn judge_placement(
     ensures { λ a. ⌜ a ≡ judgePlacement (viewNodes nodes) (viewTablets tablets) (viewPlacements placements) (viewRetirements retirements) p ⌝ }
 {
     let tablet = p.tablet_id;
+    let count = placements.count;
     let t = lookup_tablet(tablets, tablet);
     let LookedUp::Row = looked(t.there) else {
         return Answer::UnknownTablet(tablet);
@@ -221,9 +223,11 @@ pub fn judge_placement(
     if is_stored(old, p) {
         return Answer::AlreadyApplied;
     }
-    let standing = judge_standing(nodes, retirements, old.row, t.row.raft_group_id, p);
+    let group = t.row.raft_group_id;
+    let numbers = retired_numbers(group, retirements);
+    let standing = judge_standing(nodes, numbers, old.row, group, p);
     if is_applied(standing) {
-        return judge_change(old, placements.count, p);
+        return judge_change(old, count, p);
     }
     standing
 }

@@ -12,7 +12,7 @@ use Rattle.laws.proofs.KeyedLaws.{row-either}
 use Rattle.rows.specs.declared.NodeFound.{NodeFound}
 use Rattle.metadata.specs.Answers.{isApplied, _⊳_, refuse, each}
 use Rattle.metadata.specs.Tables.{nodeKey, nodeOf, desired, leaders, blankNode, zeroNode}
-use Rattle.metadata.specs.Model.{viewNodes, viewRetirements}
+use Rattle.metadata.specs.Model.{viewNodes}
 use Rattle.metadata.specs.Tablets.{isReplicaRetired}
 use Rattle.metadata.specs.Placements.{standsAlready, eligible, classDiffers, judgeReplica, judgeLeader, judgeDomain, judgeDomains}
 use Rattle.metadata.specs.declared.Answer.{Answer}
@@ -25,7 +25,6 @@ use Rattle.metadata.specs.declared.DesiredReplica.{DesiredReplica}
 use Rattle.metadata.specs.declared.DesiredReplicaPlacement.{DesiredReplicaPlacement}
 use Rattle.metadata.specs.declared.RetiredReplicaLifetime.{RetiredReplicaLifetime}
 use Rattle.metadata.specs.declared.Nodes.{Nodes}
-use Rattle.metadata.specs.declared.Retirements.{Retirements}
 use Rattle.retirements.specs.Steps.{retiredNumbers}
 use Rattle.standing.specs.Standing.{hostFound, judgeStanding}
 use Rattle.standing.proofs.Turns.{at-first, at-second, at-third}
@@ -105,23 +104,23 @@ module _ (domain required seen : ℕ) where
   domain-judged a n e q = q ∙ ap (judgeDomain domain required) e
 
 -- ---- the three in turn
-module _ (nodes : Nodes) (retirements : Retirements) (old : DesiredReplicaPlacement) (group : RaftGroupId) (p : DesiredReplicaPlacement) (on : List NodeFound)
-    (h : take (p .«replica_count») on ≡ map (hostFound (viewNodes nodes)) (desired p)) (ids : List ℕ) (r : ids ≡ retiredNumbers (group .0) (viewRetirements retirements))
-    (a : Answer)
+module _ (nodes : Nodes) (old : DesiredReplicaPlacement) (group : RaftGroupId) (p : DesiredReplicaPlacement) (on : List NodeFound)
+    (h : take (p .«replica_count») on ≡ map (hostFound (viewNodes nodes)) (desired p)) (ids : List ℕ) (a : Answer)
     (q : (nodes : List NodeDescriptor) (retirements : List RetiredReplicaLifetime) → take (p .«replica_count») on ≡ map (hostFound nodes) (desired p) →
     ids ≡ retiredNumbers (group .0) retirements → a ≡ each (judgeReplica nodes retirements (desired old) group (p .«placement_policy» .«required_storage_class»)) (desired p))
     (b : Bool) (t : b ≡ isApplied a) where
-  -- the whole check
-  abbrev standing : Answer
-  standing = judgeStanding (viewNodes nodes) (viewRetirements retirements) (desired old) group p
+  -- the whole check, over all retirements of which ids are the group's numbers
+  abbrev standing : List RetiredReplicaLifetime → Answer
+  standing retirements = judgeStanding (viewNodes nodes) retirements (desired old) group p
 
-  pub copies-refused : not b ≡ true → a ≡ standing
-  copies-refused f = at-first _ _ _ a (q (viewNodes nodes) (viewRetirements retirements) h r) b t f
+  pub copies-refused : not b ≡ true → (retirements : List RetiredReplicaLifetime) → ids ≡ retiredNumbers (group .0) retirements → a ≡ standing retirements
+  copies-refused f retirements r = at-first _ _ _ a (q (viewNodes nodes) retirements h r) b t f
 
   module _ (f : not b ≡ false) (a₁ : Answer) (q₁ : a₁ ≡ each (judgeLeader (viewNodes nodes)) (leaders (p .«placement_policy»))) (b₁ : Bool) (t₁ : b₁ ≡ isApplied a₁) where
-    pub leaders-refused : not b₁ ≡ true → a₁ ≡ standing
-    leaders-refused f₁ = at-second _ _ _ a (q (viewNodes nodes) (viewRetirements retirements) h r) b t f a₁ q₁ b₁ t₁ f₁
+    pub leaders-refused : not b₁ ≡ true → (retirements : List RetiredReplicaLifetime) → ids ≡ retiredNumbers (group .0) retirements → a₁ ≡ standing retirements
+    leaders-refused f₁ retirements r = at-second _ _ _ a (q (viewNodes nodes) retirements h r) b t f a₁ q₁ b₁ t₁ f₁
 
     pub domains-judged : not b₁ ≡ false → (a₂ : Answer) →
-        ((nodes : List NodeDescriptor) → take (p .«replica_count») on ≡ map (hostFound nodes) (desired p) → a₂ ≡ judgeDomains nodes p) → a₂ ≡ standing
-    domains-judged f₁ a₂ q₂ = at-third _ _ _ a (q (viewNodes nodes) (viewRetirements retirements) h r) b t f a₁ q₁ b₁ t₁ f₁ a₂ (q₂ (viewNodes nodes) h)
+        ((nodes : List NodeDescriptor) → take (p .«replica_count») on ≡ map (hostFound nodes) (desired p) → a₂ ≡ judgeDomains nodes p) →
+        (retirements : List RetiredReplicaLifetime) → ids ≡ retiredNumbers (group .0) retirements → a₂ ≡ standing retirements
+    domains-judged f₁ a₂ q₂ retirements r = at-third _ _ _ a (q (viewNodes nodes) retirements h r) b t f a₁ q₁ b₁ t₁ f₁ a₂ (q₂ (viewNodes nodes) h)

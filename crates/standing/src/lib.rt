@@ -5,7 +5,7 @@ ghost use lib.ListN.{take};
 ghost use Rattle.metadata.specs.Answers.{each};
 ghost use Rattle.metadata.specs.Labels.{distinct};
 ghost use Rattle.metadata.specs.Tables.{desired, leaders};
-ghost use Rattle.metadata.specs.Model.{viewNodes, viewRetirements};
+ghost use Rattle.metadata.specs.Model.{viewNodes};
 ghost use Rattle.metadata.specs.Placements.{standsAlready, eligible, classDiffers, judgeReplica, judgeLeader, judgeDomain, judgeDomains};
 ghost use Rattle.metadata.specs.Tablets.{isReplicaRetired};
 ghost use Rattle.metadata.specs.declared.NodeDescriptor.{NodeDescriptor};
@@ -23,14 +23,12 @@ use metadata::OptionalLabel;
 use metadata::PlacementPolicy;
 use metadata::REPLICA_ROOM;
 use metadata::RaftGroupId;
-use metadata::Retirements;
 use metadata::is_applied;
 use node_rows::lookup_node;
 use records::no_label;
 use records::zero_node;
 use retirements::Numbers;
 use retirements::is_replica_retired;
-use retirements::retired_numbers;
 use rows::LookedUp;
 use rows::NodeFound;
 use rows::looked;
@@ -276,19 +274,18 @@ pub fn judge_domains(on: [NodeFound; REPLICA_ROOM], p: DesiredReplicaPlacement) 
 
 // ---- the three in turn
 
-// 17 and 26 to 29. old is the stored placement, group its tablet's.
+// 17 and 26 to 29. old is the stored placement, group its tablet's, numbers has all that are retired in the group.
 pub fn judge_standing(
     nodes: Nodes,
-    retirements: Retirements,
+    numbers: Numbers,
     old: DesiredReplicaPlacement,
     group: RaftGroupId,
     p: DesiredReplicaPlacement,
 ) -> Answer
-    ensures { λ a. ⌜ a ≡ judgeStanding (viewNodes nodes) (viewRetirements retirements) (desired old) group p ⌝ }
+    ensures { λ a. ⌜ ((retirements : List RetiredReplicaLifetime) → take (numbers .count) (numbers .ids) ≡ retiredNumbers (group .0) retirements → a ≡ judgeStanding (viewNodes nodes) retirements (desired old) group p) ⌝ }
 {
     let replicas = p.replicas;
     let on = hosts_of(nodes, replicas, p.replica_count);
-    let numbers = retired_numbers(group, retirements);
     let copies = judge_replicas(on, numbers, old, group, p);
     if !is_applied(copies) {
         return copies;

@@ -30,6 +30,9 @@ is-stored-requires c κs = search needs
 returns-2 : tie.Need-returns-2
 returns-2 c = search (needs, stored-already, looked-row)
 
+retired-numbers-requires : tie.Need-retired-numbers-requires
+retired-numbers-requires c κs = search needs
+
 judge-standing-requires : tie.Need-judge-standing-requires
 judge-standing-requires c κs = search needs
 
@@ -40,7 +43,7 @@ judge-change-requires : tie.Need-judge-change-requires
 judge-change-requires c κs = search needs
 
 returns-3 : tie.Need-returns-3
-returns-3 c = search (length-mapped, stands-so, c .before .before .before .before .before .before .before .before .before .before .before .before .good .1 .1 .0, needs, looked-row)
+returns-3 c = search (length-mapped, stands-so, c .before .before .before .before .before .before .before .before .before .before .before .before .before .before .good .1 .1 .0, needs, looked-row)
 
 returns-4 : tie.Need-returns-4
 returns-4 c = search (needs, stands-not, looked-row)
@@ -57,6 +60,7 @@ judge-placement-spec =
     lookup-placement-requires
     is-stored-requires
     returns-2
+    retired-numbers-requires
     judge-standing-requires
     is-applied-requires
     judge-change-requires

@@ -7,9 +7,6 @@ use Rattle.standing.proofs.judge_standing.Tie as tie
 hosts-of-requires : tie.Need-hosts-of-requires
 hosts-of-requires c κs = search needs
 
-retired-numbers-requires : tie.Need-retired-numbers-requires
-retired-numbers-requires c κs = search needs
-
 judge-replicas-requires : tie.Need-judge-replicas-requires
 judge-replicas-requires c κs = search needs
 
@@ -39,7 +36,6 @@ judge-standing-spec =
     tie.close
     (tie.spec
     hosts-of-requires
-    retired-numbers-requires
     judge-replicas-requires
     is-applied-requires
     returns
