@@ -1,7 +1,7 @@
 -- What a command of the tape is answered: what is asked before its own checks, then these, a law for each command. Assumes nothing.
 use Prim.Native.Nat.{ℕ, zero, suc, _+_, _≤_}
 use native.Mathlib.Omega.{arith}
-use mathlib.Core.Path.{_≡_, refl, sym, ap, _∙_}
+use mathlib.Core.Path.{_≡_, refl, sym, ap, ap₂, _∙_}
 use mathlib.Core.Bool.{Bool, true, false, not, cond, _&&_}
 use mathlib.Core.List.{List}
 use lib.Dec.{leb}
@@ -44,7 +44,9 @@ use Rattle.metadata.specs.declared.Name.{Name}
 use Rattle.metadata.specs.declared.NodeDescriptor.{NodeDescriptor}
 use Rattle.metadata.specs.declared.OptionalName.{OptionalName}
 use Rattle.metadata.specs.declared.RetiredReplicaLifetime.{RetiredReplicaLifetime}
+use Rattle.metadata.specs.declared.Placements.{Placements}
 use Rattle.metadata.specs.declared.TabletDescriptor.{TabletDescriptor}
+use Rattle.metadata.specs.declared.Tablets.{Tablets}
 use Rattle.metadata.proofs.AnswerLaws.{stop, go-on}
 use Rattle.tape.specs.Tape.{isCommand, commandAt, storeOf, admitted}
 use Rattle.tape.proofs.Changing.{bounds}
@@ -129,6 +131,13 @@ module _ (name : OptionalName) (b : ℕ) (l : List ℕ) (at r : ℕ) (q : r ≡ 
 sixth : (n : ℕ) → 4 ≤ n → n ≤ 6 → (n ≡ 4 → ⊥) → (n ≡ 5 → ⊥) → n ≡ 6
 sixth n a z f4 f5 = omega arith
 
+-- the last of the two after the first
+third : (n : ℕ) → 2 ≤ n → n ≤ 3 → (n ≡ 2 → ⊥) → n ≡ 3
+third n a z f2 = omega arith
+
+pub third-of : (b : ℕ) → (leb 2 b && leb b 3) ≡ true → (b ≡ 2 → ⊥) → b ≡ 3
+third-of b w n2 = let i = and-both (leb 2 b) (leb b 3) w in third b (leb-true 2 b (i .0)) (leb-true b 3 (i .1)) n2
+
 pub sixth-of : (b : ℕ) → (leb 4 b && leb b 6) ≡ true → (b ≡ 4 → ⊥) → (b ≡ 5 → ⊥) → b ≡ 6
 sixth-of b w n4 n5 = let i = and-both (leb 4 b) (leb b 6) w in sixth b (leb-true 4 b (i .0)) (leb-true b 6 (i .1)) n4 n5
 
@@ -160,17 +169,17 @@ module _ (d : Directory) (c : Catalog) (b : ℕ) (l : List ℕ) (at : ℕ) (x : 
     on : a ≡ own → a ≡ decide (view (storeOf d c)) (commandAt b l at)
     on e = e ∙ sym (parted ∙ go-on x _ own q (sym t ∙ not-false f h))
 
-    pub on-naming : (n : Name) → b ≡ 1 → n ≡ nameAt l at → a ≡ judgeNaming (d .«cluster_id») n → a ≡ decide (view (storeOf d c)) (commandAt b l at)
+    on-naming : (n : Name) → b ≡ 1 → n ≡ nameAt l at → a ≡ judgeNaming (d .«cluster_id») n → a ≡ decide (view (storeOf d c)) (commandAt b l at)
     unfolding commandAt
     on-naming n e g p = on (rw e (p ∙ ap (judgeNaming (d .«cluster_id»)) g))
 
-    pub on-registering : (n : NodeDescriptor) → b ≡ 2 → n ≡ nodeAt l at →
+    on-registering : (n : NodeDescriptor) → b ≡ 2 → n ≡ nodeAt l at →
         a ≡ judgeRegistering (viewNodes (d .nodes)) (viewTablets (c .tablets)) (viewPlacements (c .placements)) n → a ≡ decide (view (storeOf d c)) (commandAt b l at)
     unfolding commandAt
     on-registering n e g p =
         on (rw e (p ∙ ap (judgeRegistering (viewNodes (d .nodes)) (viewTablets (c .tablets)) (viewPlacements (c .placements))) g))
 
-    pub on-lifecycle : (k to : ℕ) → b ≡ 3 → k ≡ numberAt 8 l at → to ≡ byteAt l (at + 8) →
+    on-lifecycle : (k to : ℕ) → b ≡ 3 → k ≡ numberAt 8 l at → to ≡ byteAt l (at + 8) →
         a ≡ judgeLifecycle (viewNodes (d .nodes)) (viewTablets (c .tablets)) (viewPlacements (c .placements)) (record { 0 = k }) to → a ≡ decide (view (storeOf d c)) (commandAt b l at)
     unfolding commandAt
     on-lifecycle k to e g w p = on (rw e (p ∙ rw (g, w)))
@@ -196,17 +205,60 @@ module _ (d : Directory) (c : Catalog) (b : ℕ) (l : List ℕ) (at : ℕ) (x : 
         let e : b ≡ 6 = sixth-of b w n4 n5 in
         on (rw e (p ∙ ap (judgeRetirement (viewTablets (c .tablets)) (viewPlacements (c .placements)) (viewRetirements (c .retirements))) g))
 
-    outside : (n : ℕ) (u v : Bool) → leb 4 n ≡ u → leb n 6 ≡ v → (u && v) ≡ false → 1 ≤ n → n ≤ 7 → (n ≡ 1 → ⊥) → (n ≡ 2 → ⊥) → (n ≡ 3 → ⊥) → n ≡ 7
-    outside n true true e g w a z f1 f2 f3 = cc
-    outside n true false e g w a z f1 f2 f3 = let i = leb-false n 6 g in omega (arith, i)
-    outside n false v e g w a z f1 f2 f3 = absurd (let i = leb-false 4 n e in no n i a f1 f2 f3)
-      where
-        no : (n : ℕ) → suc n ≤ 4 → 1 ≤ n → (n ≡ 1 → ⊥) → (n ≡ 2 → ⊥) → (n ≡ 3 → ⊥) → ⊥
-        no n i a f1 f2 f3 = omega arith
-
-    pub on-picking : isCommand b ≡ true → (leb 4 b && leb b 6) ≡ false → (b ≡ 1 → ⊥) → (b ≡ 2 → ⊥) → (b ≡ 3 → ⊥) → a ≡ judgePicking (viewNodes (d .nodes)) →
-        a ≡ decide (view (storeOf d c)) (commandAt b l at)
+    on-picking : b ≡ 7 → a ≡ judgePicking (viewNodes (d .nodes)) → a ≡ decide (view (storeOf d c)) (commandAt b l at)
     unfolding commandAt
-    on-picking k w n1 n2 n3 p =
-        let e : b ≡ 7 = outside b (leb 4 b) (leb b 6) refl refl w (bounds b k .0) (bounds b k .1) n1 n2 n3 in
-        on (rw e p)
+    on-picking e p = on (rw e p)
+
+-- ---- naming and the first choice: whatever the catalog
+
+outside-go : (n : ℕ) (u v : Bool) → leb 2 n ≡ u → leb n 6 ≡ v → (u && v) ≡ false → 1 ≤ n → n ≤ 7 → (n ≡ 1 → ⊥) → n ≡ 7
+outside-go n true true e g w a z f1 = cc
+outside-go n true false e g w a z f1 = let i = leb-false n 6 g in omega (arith, i)
+outside-go n false v e g w a z f1 = absurd (no n (leb-false 2 n e) a f1)
+  where
+    no : (n : ℕ) → suc n ≤ 2 → 1 ≤ n → (n ≡ 1 → ⊥) → ⊥
+    no n i a f1 = omega arith
+
+module _ (d : Directory) (b : ℕ) (l : List ℕ) (at : ℕ) (x : Answer) (q : x ≡ admitted (d .«cluster_id») (commandAt b l at)) (f : Bool) (t : f ≡ isApplied x) where
+  pub refused-always : not f ≡ true → (c : Catalog) → x ≡ decide (view (storeOf d c)) (commandAt b l at)
+  refused-always h c = not-admitted d c b l at x q f t h
+
+  module _ (h : not f ≡ false) (a : Answer) where
+    pub naming-always : (n : Name) → b ≡ 1 → n ≡ nameAt l at → a ≡ judgeNaming (d .«cluster_id») n → (c : Catalog) → a ≡ decide (view (storeOf d c)) (commandAt b l at)
+    naming-always n e g p c = on-naming d c b l at x q f t h a n e g p
+
+    pub picking-always : isCommand b ≡ true → (leb 2 b && leb b 6) ≡ false → (b ≡ 1 → ⊥) → a ≡ judgePicking (viewNodes (d .nodes)) →
+        (c : Catalog) → a ≡ decide (view (storeOf d c)) (commandAt b l at)
+    picking-always k w n1 p c =
+        on-picking d c b l at x q f t h a (outside-go b (leb 2 b) (leb b 6) refl refl w (bounds b k .0) (bounds b k .1) n1) p
+
+  -- ---- registering and lifecycle: whatever the rest of the catalog
+  module _ (tablets : Tablets) (placements : Placements) where
+    pub refused-with : not f ≡ true → (c : Catalog) → tablets ≡ c .tablets → placements ≡ c .placements → x ≡ decide (view (storeOf d c)) (commandAt b l at)
+    refused-with h c k₁ k₂ = refused-always h c
+
+    module _ (h : not f ≡ false) (a : Answer) where
+      pub registering-with : (n : NodeDescriptor) → b ≡ 2 → n ≡ nodeAt l at → a ≡ judgeRegistering (viewNodes (d .nodes)) (viewTablets tablets) (viewPlacements placements) n →
+          (c : Catalog) → tablets ≡ c .tablets → placements ≡ c .placements → a ≡ decide (view (storeOf d c)) (commandAt b l at)
+      registering-with n e g p c k₁ k₂ =
+          on-registering d c b l at x q f t h a n e g
+          (p ∙ ap₂ (λ (y : Tablets) (z : Placements). judgeRegistering (viewNodes (d .nodes)) (viewTablets y) (viewPlacements z) n) k₁ k₂)
+
+      pub lifecycle-with : (k to : ℕ) → (leb 2 b && leb b 3) ≡ true → (b ≡ 2 → ⊥) → k ≡ numberAt 8 l at → to ≡ byteAt l (at + 8) →
+          a ≡ judgeLifecycle (viewNodes (d .nodes)) (viewTablets tablets) (viewPlacements placements) (record { 0 = k }) to →
+          (c : Catalog) → tablets ≡ c .tablets → placements ≡ c .placements → a ≡ decide (view (storeOf d c)) (commandAt b l at)
+      lifecycle-with k to w n2 g v p c k₁ k₂ =
+          on-lifecycle d c b l at x q f t h a k to (third-of b w n2) g v
+          (p ∙ ap₂ (λ (y : Tablets) (z : Placements). judgeLifecycle (viewNodes (d .nodes)) (viewTablets y) (viewPlacements z) (record { 0 = k }) to) k₁ k₂)
+
+-- ---- neither among the tablets, placements and retirements nor among the nodes: among the others
+pub beside : (b : ℕ) → (leb 4 b && leb b 6) ≡ false → (leb 2 b && leb b 3) ≡ false → (leb 2 b && leb b 6) ≡ false
+beside zero p q = refl
+beside (suc zero) p q = refl
+beside (suc (suc zero)) p q = q
+beside (suc (suc (suc zero))) p q = q
+beside (suc (suc (suc (suc zero)))) p q = p
+beside (suc (suc (suc (suc (suc zero))))) p q = p
+beside (suc (suc (suc (suc (suc (suc zero)))))) p q = p
+beside (suc (suc (suc (suc (suc (suc (suc n))))))) p q =
+    rw (le-leb 2 (suc (suc (suc (suc (suc (suc (suc n))))))) (omega arith), lt-leb (suc (suc (suc (suc (suc (suc (suc n))))))) 6 (omega arith))

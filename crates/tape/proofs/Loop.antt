@@ -66,13 +66,16 @@ use Rattle.tape.proofs.Answering.{
   reason-retirement,
   reason-none,
   not-admitted,
-  on-naming,
-  on-registering,
-  on-lifecycle,
   on-tablet,
   on-placement,
   on-retirement,
-  on-picking,
+  refused-always,
+  naming-always,
+  picking-always,
+  refused-with,
+  registering-with,
+  lifecycle-with,
+  third-of,
   sixth-of,
 }
 use Rattle.tape.proofs.History.{accepted}
@@ -116,7 +119,7 @@ module _ (b : ℕ) (l : List ℕ) (at : ℕ) (h : at + sizeOf b ≤ length l) wh
   unfolding sizeOf
   room-6 e = room 6 48 e refl
 
--- for `search reasoning` and `search deciding` at each need
+-- for `search reasoning`, `search deciding` and so on at each need
 pub ruleset reasoning =
     (room-1, room-2, room-3, room-3-id, room-3-last, room-4, room-5, room-6, reason-naming, reason-node, reason-lifecycle, reason-tablet, reason-placement, reason-retirement, reason-none, needs)
 
@@ -124,8 +127,17 @@ pub ruleset reasoning =
 pub room-last : (b : ℕ) (l : List ℕ) (at : ℕ) → at + sizeOf b ≤ length l → (leb 4 b && leb b 6) ≡ true → (b ≡ 4 → ⊥) → (b ≡ 5 → ⊥) → at + 48 ≤ length l
 room-last b l at h w n4 n5 = room-6 b l at h (sixth-of b w n4 n5)
 
-pub ruleset deciding =
-    (room-1, room-2, room-3, room-3-id, room-3-last, room-4, room-5, room-last, not-admitted, on-naming, on-registering, on-lifecycle, on-tablet, on-placement, on-retirement, on-picking, needs)
+pub room-third : (b : ℕ) (l : List ℕ) (at : ℕ) → at + sizeOf b ≤ length l → (leb 2 b && leb b 3) ≡ true → (b ≡ 2 → ⊥) → at + 8 ≤ length l
+room-third b l at h w n2 = room-3-id b l at h (third-of b w n2)
+
+pub last-third : (b : ℕ) (l : List ℕ) (at : ℕ) → at + sizeOf b ≤ length l → (leb 2 b && leb b 3) ≡ true → (b ≡ 2 → ⊥) → at + 8 < length l
+last-third b l at h w n2 = room-3-last b l at h (third-of b w n2)
+
+pub ruleset deciding = (room-4, room-5, room-last, not-admitted, on-tablet, on-placement, on-retirement, needs)
+
+pub ruleset deciding-directory = (room-1, refused-always, naming-always, picking-always, needs)
+
+pub ruleset deciding-node = (room-2, room-third, last-third, refused-with, registering-with, lifecycle-with, needs)
 
 -- x is what stands at the place
 pub known-of : (l : List ℕ) (at b m : ℕ) (x : Next) → x ≡ nextAt l at → x ≡ N.Whole b m → isCommand b ≡ true

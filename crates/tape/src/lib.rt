@@ -12,6 +12,7 @@ ghost use Rattle.placements.specs.Copies.{placementsPut};
 ghost use Rattle.rows.specs.Results.{tabletsWith, retirementsWith};
 ghost use Rattle.tape.specs.Tape.{isCommand, sizeOf, admitted, nextAt, readFrom, lines, written, commandAt, Done, openTape, cutOpening, bodyAt, ran, ranOut, TapeClaims, storeOf, directoryAfter, DirectoryChange, Operands};
 ghost use Rattle.metadata.specs.Sound.{sound};
+ghost use Rattle.metadata.specs.declared.Catalog.{Catalog};
 use metadata::Answer;
 use metadata::Answered;
 use metadata::Catalog;
@@ -194,10 +195,10 @@ fn admitted(name: OptionalName, b: u8, tape: &[u8], at: usize) -> Answer
     Answer::Applied
 }
 
-// Inner: the same. Naming, registering, lifecycle and the first choice; d and c are the store's two parts.
-fn directory_answer(d: Directory, c: Catalog, b: u8, tape: &[u8], at: usize) -> Answer
-    requires { ⌜ (isCommand b ≡ true) × (at + sizeOf b ≤ length (now tape)) × ((leb 4 b && leb b 6) ≡ false) ⌝ }
-    ensures { λ r. ⌜ r ≡ decide (view (storeOf d c)) (commandAt b (now (tape .entry)) at) ⌝ }
+// Inner: the same. Naming and the first choice, which need no table of the catalog.
+fn directory_answer(d: Directory, b: u8, tape: &[u8], at: usize) -> Answer
+    requires { ⌜ (isCommand b ≡ true) × (at + sizeOf b ≤ length (now tape)) × ((leb 2 b && leb b 6) ≡ false) ⌝ }
+    ensures { λ r. ⌜ ((c : Catalog) → r ≡ decide (view (storeOf d c)) (commandAt b (now (tape .entry)) at)) ⌝ }
 {
     let name = d.cluster_id;
     let early = admitted(name, b, tape, at);
@@ -207,18 +208,34 @@ fn directory_answer(d: Directory, c: Catalog, b: u8, tape: &[u8], at: usize) -> 
     if b == 1 {
         return naming::judge_naming(name, decode::name_at(tape, at));
     }
-    if b == 2 {
-        let n = decode::node_at(tape, at);
-        return registering::judge_registering(d.nodes, c.tablets, c.placements, n);
-    }
-    if b == 3 {
-        let k = NodeId(decode::number8(tape, at));
-        return lifecycle::judge_lifecycle(d.nodes, c.tablets, c.placements, k, tape[at + 8]);
-    }
     labels::pick_nodes(d.nodes)
 }
 
-// Inner: the same. Tablets, placements and retirement.
+// Inner: the same. Registering and lifecycle, with the two tables that say whether a node may leave.
+fn node_answer(
+    d: Directory,
+    tablets: Tablets,
+    placements: Placements,
+    b: u8,
+    tape: &[u8],
+    at: usize,
+) -> Answer
+    requires { ⌜ (isCommand b ≡ true) × (at + sizeOf b ≤ length (now tape)) × ((leb 2 b && leb b 3) ≡ true) ⌝ }
+    ensures { λ r. ⌜ ((c : Catalog) → tablets ≡ c .tablets → placements ≡ c .placements → r ≡ decide (view (storeOf d c)) (commandAt b (now (tape .entry)) at)) ⌝ }
+{
+    let early = admitted(d.cluster_id, b, tape, at);
+    if !is_applied(early) {
+        return early;
+    }
+    if b == 2 {
+        let n = decode::node_at(tape, at);
+        return registering::judge_registering(d.nodes, tablets, placements, n);
+    }
+    let k = NodeId(decode::number8(tape, at));
+    lifecycle::judge_lifecycle(d.nodes, tablets, placements, k, tape[at + 8])
+}
+
+// Inner: the same. Tablets, placements and retirement; d and c are the store's two parts.
 fn catalog_answer(d: Directory, c: Catalog, b: u8, tape: &[u8], at: usize) -> Answer
     requires { ⌜ (isCommand b ≡ true) × (at + sizeOf b ≤ length (now tape)) × ((leb 4 b && leb b 6) ≡ true) ⌝ }
     ensures { λ r. ⌜ r ≡ decide (view (storeOf d c)) (commandAt b (now (tape .entry)) at) ⌝ }
@@ -246,7 +263,10 @@ pub fn command_answer(d: Directory, c: Catalog, b: u8, tape: &[u8], at: usize) -
     if (4 <= b) & (b <= 6) {
         return catalog_answer(d, c, b, tape, at);
     }
-    directory_answer(d, c, b, tape, at)
+    if (2 <= b) & (b <= 3) {
+        return node_answer(d, c.tablets, c.placements, b, tape, at);
+    }
+    directory_answer(d, b, tape, at)
 }
 
 // Inner: who runs a tape shows that the command was answered Applied. What naming, registering and lifecycle leave of the directory.
