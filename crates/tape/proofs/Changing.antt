@@ -42,7 +42,8 @@ use Rattle.placements.proofs.Applied.{applied-put}
 use Rattle.rows.specs.Results.{tabletsWith, retirementsWith}
 use Rattle.rows.specs.declared.TabletsWith.{TabletsWith}
 use Rattle.rows.specs.declared.RetirementsWith.{RetirementsWith}
-use Rattle.store.proofs.Steps.{
+use Rattle.soundness.proofs.Steps.{
+  picking-decided,
   named-step,
   registered-step,
   moved-step,
@@ -58,11 +59,6 @@ use Rattle.store.proofs.Steps.{
 use Rattle.tablets.proofs.Decided.{tablet-put}
 use Rattle.retirements.proofs.Applied.{retirement-put}
 use Rattle.tape.specs.Tape.{isCommand, sizeOf, commandAt, storeOf, directoryAfter, DirectoryChange}
-
--- picking has no reason and needs no name
-picking-plain : (name : OptionalName) (a : Answer) → decided name picking a ≡ a
-unfolding decided admission lowest _⊳_ refuse
-picking-plain name a = refl
 
 -- ---- which command it is
 
@@ -246,7 +242,7 @@ module _ (d : Directory) (c : Catalog) (b : ℕ) (l : List ℕ) (at : ℕ) (a : 
     unfolding commandAt
     turned-nothing k j n4 n5 n6 =
         let n : b ≡ 7 = seven b k j n4 n5 n6 in
-        rw n (picked-step (storeOf d c) e a (rw n at q ∙ picking-plain (d .«cluster_id») (judgePicking (viewNodes (d .nodes)))))
+        rw n (picked-step (storeOf d c) e a (rw n at q ∙ picking-decided (d .«cluster_id») (judgePicking (viewNodes (d .nodes)))))
 
 -- for `search turned` at each need of a loop
 pub ruleset turned = (turned-kept, turned-directory, turned-tablets, turned-placements, turned-retirements, turned-nothing)

@@ -1,4 +1,4 @@
-use Rattle.store.proofs.Steps.{named-step}
+use Rattle.soundness.proofs.Steps.{named-step}
 use borrow.Author.Needs.{needs}
 use Rattle.store.proofs.cluster_initialized_step.Statement.{statement}
 use Rattle.store.proofs.cluster_initialized_step.Tie as tie

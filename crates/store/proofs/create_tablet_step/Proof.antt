@@ -1,4 +1,4 @@
-use Rattle.store.proofs.Steps.{tablet-step, sound-tablets}
+use Rattle.soundness.proofs.Steps.{tablet-step, sound-tablets}
 use borrow.Author.Tests.{eq-eqb, ne-eqb, lt-ltb, le-ltb}
 use borrow.Author.Needs.{needs}
 use Rattle.store.proofs.create_tablet_step.Statement.{statement}

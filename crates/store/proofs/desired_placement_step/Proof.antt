@@ -1,4 +1,4 @@
-use Rattle.store.proofs.Steps.{placement-step, sound-placements}
+use Rattle.soundness.proofs.Steps.{placement-step, sound-placements}
 use borrow.Author.Needs.{needs}
 use Rattle.store.proofs.desired_placement_step.Statement.{statement}
 use Rattle.store.proofs.desired_placement_step.Tie as tie

@@ -1,4 +1,4 @@
-use Rattle.store.proofs.Steps.{picked-step}
+use Rattle.soundness.proofs.Steps.{picked-step}
 use borrow.Author.Tests.{eq-eqb, ne-eqb, lt-ltb, le-ltb}
 use borrow.Author.Needs.{needs}
 use Rattle.store.proofs.initial_placement_step.Statement.{statement}

@@ -1,4 +1,4 @@
-use Rattle.store.proofs.Steps.{marks-raised, marks-kept}
+use Rattle.store.proofs.Entries.{marks-raised, marks-kept}
 use borrow.Author.Needs.{needs}
 use Rattle.store.proofs.marks_after_placement.Statement.{statement}
 use Rattle.store.proofs.marks_after_placement.Tie as tie

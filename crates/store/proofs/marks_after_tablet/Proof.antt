@@ -1,4 +1,4 @@
-use Rattle.store.proofs.Steps.{marks-raised, marks-kept}
+use Rattle.store.proofs.Entries.{marks-raised, marks-kept}
 use borrow.Author.Tests.{eq-eqb, ne-eqb, lt-ltb, le-ltb}
 use borrow.Author.Needs.{needs}
 use Rattle.store.proofs.marks_after_tablet.Statement.{statement}

@@ -1,4 +1,4 @@
-use Rattle.store.proofs.Steps.{registered-step, sound-nodes}
+use Rattle.soundness.proofs.Steps.{registered-step, sound-nodes}
 use borrow.Author.Needs.{needs}
 use Rattle.store.proofs.register_node_step.Statement.{statement}
 use Rattle.store.proofs.register_node_step.Tie as tie

@@ -1,4 +1,4 @@
-use Rattle.store.proofs.Steps.{retirement-step, sound-retirements}
+use Rattle.soundness.proofs.Steps.{retirement-step, sound-retirements}
 use borrow.Author.Tests.{eq-eqb, ne-eqb, lt-ltb, le-ltb}
 use borrow.Author.Needs.{needs}
 use Rattle.store.proofs.replica_retirement_step.Statement.{statement}

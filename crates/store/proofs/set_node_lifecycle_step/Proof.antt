@@ -1,4 +1,4 @@
-use Rattle.store.proofs.Steps.{moved-step, sound-nodes}
+use Rattle.soundness.proofs.Steps.{moved-step, sound-nodes}
 use borrow.Author.Needs.{needs}
 use Rattle.store.proofs.set_node_lifecycle_step.Statement.{statement}
 use Rattle.store.proofs.set_node_lifecycle_step.Tie as tie

@@ -30,7 +30,7 @@ use Rattle.metadata.specs.Model.{
   raisedByTablet,
   raisedByPlacement,
 }
-use Rattle.metadata.specs.Sound.{soundTable, soundDirectory, soundCatalog, sound, entry}
+use Rattle.metadata.specs.Sound.{soundTable, soundDirectory, soundCatalog, sound}
 use Rattle.metadata.proofs.Packed.{pack-view}
 use Rattle.metadata.specs.declared.Answer.{Answer}
 use Rattle.metadata.specs.declared.Answer.the-variants as A
@@ -48,7 +48,6 @@ use Rattle.metadata.specs.declared.Tablets.{Tablets}
 use Rattle.metadata.specs.declared.Placements.{Placements}
 use Rattle.metadata.specs.declared.Retirements.{Retirements}
 use Rattle.metadata.specs.declared.Store.{Store}
-use Rattle.store.specs.Lookups.{unsound}
 
 -- the store with one part put in its place
 abbrev pub withName : Store → OptionalName → Store
@@ -79,7 +78,7 @@ withRetirements s x =
     }
 
 -- picking has no reason and needs no name
-picking-decided : (name : OptionalName) (a : Answer) → decided name picking a ≡ a
+pub picking-decided : (name : OptionalName) (a : Answer) → decided name picking a ≡ a
 unfolding decided admission lowest _⊳_ refuse
 picking-decided name a = refl
 
@@ -202,18 +201,6 @@ module _ (s : Store) (e : sound s ≡ true) where
       let p : decide (view s) picking ≡ judgePicking (viewNodes (s .directory .nodes)) = picking-decided (s .directory .«cluster_id») (judgePicking (viewNodes (s .directory .nodes))) in
       join picking a (q ∙ sym p) s (rw p (picked-go (viewNodes (s .directory .nodes)) (isApplied (judgePicking (viewNodes (s .directory .nodes)))) refl))
 
--- ---- the entry points
-
--- b is what the test of the store gave
-pub test-true : (s : Store) (b : Bool) → b ≡ sound s → b ≡ true → sound s ≡ true
-test-true s b p e = sym p ∙ e
-
-pub entry-refused : (s : Store) (c : Command) (b : Bool) (r : Answered) → b ≡ sound s → b ≡ false → r ≡ unsound s → r ≡ entry s c
-entry-refused s c b r p e q = rw (← p, e) q
-
-pub entry-taken : (s : Store) (c : Command) (b : Bool) (r : Answered) → b ≡ sound s → b ≡ true → r ≡ step s c → r ≡ entry s c
-entry-taken s c b r p e q = rw (← p, e) q
-
 -- ---- the parts of a sound store that the handlers ask for
 
 pub sound-nodes : (s : Store) → sound s ≡ true → soundTable nodeKey isZeroNode nodeRoom (s .directory .nodes .count) (s .directory .nodes .rows) ≡ true
@@ -232,11 +219,3 @@ pub sound-retirements : (s : Store) → sound s ≡ true →
     soundTable retirementKey isZeroRetirement retirementRoom (s .catalog .retirements .count) (s .catalog .retirements .rows) ≡ true
 unfolding sound soundCatalog
 sound-retirements s e = each-of _ (each-of _ e .1 .0) .1 .1 .1 .1 .1 .0
-
--- ---- marks
-
-pub marks-raised : (a : Answer) (b : Bool) (r x m : MetadataAllocatorState) → b ≡ isApplied a → b ≡ true → r ≡ x → r ≡ cond (isApplied a) x m
-marks-raised a b r x m p e q = rw (← p, e) q
-
-pub marks-kept : (a : Answer) (b : Bool) (x m : MetadataAllocatorState) → b ≡ isApplied a → b ≡ false → m ≡ cond (isApplied a) x m
-marks-kept a b x m p e = rw (← p, e)
