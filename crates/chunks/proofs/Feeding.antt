@@ -20,8 +20,9 @@ use Rattle.metadata.specs.declared.Store.{Store}
 use Rattle.metadata.proofs.Theorem.{entry-step, step-sound}
 use Rattle.tape.specs.declared.Next.{Next}
 use Rattle.tape.specs.declared.Next.the-variants as N
-use Rattle.tape.specs.Tape.{DirectoryChange, isCommand, sizeOf, commandAt, Reading, ended, stopped, nextAt, readFrom, tapeAnswers}
-use Rattle.tape.proofs.Changing.{Turned, turned}
+use Rattle.tape.specs.Tape.{Reading, ended, stopped, nextAt, readFrom, tapeAnswers}
+use Rattle.answers.specs.Turns.{DirectoryChange, isCommand, sizeOf, commandAt}
+use Rattle.answers.proofs.Changing.{Turned, turned}
 use Rattle.tape.proofs.Reading.{whole, read-whole, read-end, read-unknown, read-cut, next-end}
 use Rattle.chunks.specs.declared.Chunk.{Chunk}
 use Rattle.chunks.specs.Chunks.{lineRoom, nextLine, linesText, lineBehind, Fed}

@@ -5,18 +5,18 @@ ghost use Prim.Native.Nat.{_≤_};
 ghost use lib.ListN.{length};
 ghost use Rattle.metadata.specs.Sound.{sound};
 ghost use Rattle.chunks.specs.Chunks.{Fed};
+use answers::command_answer;
+use answers::directory_after;
+use answers::marks_after_placement;
+use answers::marks_after_tablet;
+use answers::placements_after;
+use answers::retirements_after;
+use answers::tablets_after;
 use metadata::Answer;
 use metadata::Store;
 use metadata::is_applied;
 use metadata::report;
 use tape::Next;
-use tape::command_answer;
-use tape::directory_after;
-use tape::marks_after_placement;
-use tape::marks_after_tablet;
-use tape::placements_after;
-use tape::retirements_after;
-use tape::tablets_after;
 
 // The most bytes that a line has: five numbers of twenty digits, and a byte behind each.
 pub const LINE_ROOM: usize = 105;

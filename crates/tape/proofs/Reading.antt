@@ -13,7 +13,8 @@ use Rattle.decode.specs.Decode.{byteAt}
 use Rattle.metadata.specs.declared.Answer.the-variants as A
 use Rattle.tape.specs.declared.Next.{Next}
 use Rattle.tape.specs.declared.Next.the-variants as N
-use Rattle.tape.specs.Tape.{isCommand, sizeOf, commandAt, Reading, ended, stopped, then, nextAt, onNext, read, readFrom, lines}
+use Rattle.tape.specs.Tape.{Reading, ended, stopped, then, nextAt, onNext, read, readFrom, lines}
+use Rattle.answers.specs.Turns.{isCommand, sizeOf, commandAt}
 
 -- ---- what stands at a place, as the code tests it
 

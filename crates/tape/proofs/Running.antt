@@ -18,7 +18,8 @@ use Rattle.metadata.specs.declared.Answered.{Answered}
 use Rattle.metadata.specs.declared.Reported.{Reported}
 use Rattle.metadata.specs.declared.Store.{Store}
 use Rattle.tape.specs.declared.Next.the-variants as N
-use Rattle.tape.specs.Tape.{commandAt, Reading, ended, stopped, then, nextAt, readFrom, tapeAnswers, numbersOf, numbers, written, Done}
+use Rattle.tape.specs.Tape.{Reading, ended, stopped, then, nextAt, readFrom, tapeAnswers, numbersOf, numbers, written, Done}
+use Rattle.answers.specs.Turns.{commandAt}
 use Rattle.tape.proofs.Reading.{read-end, read-whole}
 
 -- ---- numbers

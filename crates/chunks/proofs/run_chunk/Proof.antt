@@ -1,7 +1,7 @@
 use Prim.Native.Nat.{_-_}
 use lib.ListN.{length}
-use Rattle.tape.specs.Tape.{storeOf}
-use Rattle.tape.proofs.Changing.{turned-directory, turned-tablets, turned-placements, turned-retirements}
+use Rattle.answers.specs.Turns.{storeOf}
+use Rattle.answers.proofs.Changing.{turned-directory, turned-tablets, turned-placements, turned-retirements}
 use Rattle.tape.proofs.Loop.{known-of, operands-of}
 use Rattle.chunks.proofs.Feeding.{Feeding, feeding, feed-change, feed-next}
 use Rattle.chunks.proofs.run_chunk.Statement.{statement}
@@ -12,14 +12,14 @@ use Rattle.lines.proofs.put_line.Reads as put-line-reads
 use Rattle.metadata.proofs.is_applied.Reads as is-applied-reads
 use Rattle.metadata.proofs.report.Reads as report-reads
 use Rattle.std.proofs.num.wrapping_add_u64.Reads as wrapping-add-u64-reads
-use Rattle.tape.proofs.command_answer.Reads as command-answer-reads
-use Rattle.tape.proofs.directory_after.Reads as directory-after-reads
-use Rattle.tape.proofs.marks_after_placement.Reads as marks-after-placement-reads
-use Rattle.tape.proofs.marks_after_tablet.Reads as marks-after-tablet-reads
+use Rattle.answers.proofs.command_answer.Reads as command-answer-reads
+use Rattle.answers.proofs.directory_after.Reads as directory-after-reads
+use Rattle.answers.proofs.marks_after_placement.Reads as marks-after-placement-reads
+use Rattle.answers.proofs.marks_after_tablet.Reads as marks-after-tablet-reads
 use Rattle.tape.proofs.next_at.Reads as next-at-reads
-use Rattle.tape.proofs.placements_after.Reads as placements-after-reads
-use Rattle.tape.proofs.retirements_after.Reads as retirements-after-reads
-use Rattle.tape.proofs.tablets_after.Reads as tablets-after-reads
+use Rattle.answers.proofs.placements_after.Reads as placements-after-reads
+use Rattle.answers.proofs.retirements_after.Reads as retirements-after-reads
+use Rattle.answers.proofs.tablets_after.Reads as tablets-after-reads
 
 abbrev Inv-loop : tie.InvT-loop
 Inv-loop chunk from first out₀ directory₀ catalog₀ at₀ line₀ used₀ out directory catalog at line used =

@@ -1,6 +1,6 @@
-use Rattle.tape.proofs.Changing.{turned-directory, turned-tablets, turned-placements, turned-retirements}
+use Rattle.answers.proofs.Changing.{turned-directory, turned-tablets, turned-placements, turned-retirements}
 use Rattle.tape.proofs.Loop.{loop-next, known-of, operands-of}
-use Rattle.tape.specs.Tape.{storeOf}
+use Rattle.answers.specs.Turns.{storeOf}
 use Rattle.tape.proofs.Loop.{Stands, running}
 use Prim.Native.Nat.{_-_}
 use lib.ListN.{length}
@@ -10,14 +10,14 @@ use Rattle.tape.proofs.run_commands.Reads as reads
 use Rattle.tape.proofs.run_commands.Lts as lts
 use Rattle.metadata.proofs.is_applied.Reads as is-applied-reads
 use Rattle.tape.proofs.behind.Reads as behind-reads
-use Rattle.tape.proofs.command_answer.Reads as command-answer-reads
-use Rattle.tape.proofs.directory_after.Reads as directory-after-reads
-use Rattle.tape.proofs.marks_after_placement.Reads as marks-after-placement-reads
-use Rattle.tape.proofs.marks_after_tablet.Reads as marks-after-tablet-reads
+use Rattle.answers.proofs.command_answer.Reads as command-answer-reads
+use Rattle.answers.proofs.directory_after.Reads as directory-after-reads
+use Rattle.answers.proofs.marks_after_placement.Reads as marks-after-placement-reads
+use Rattle.answers.proofs.marks_after_tablet.Reads as marks-after-tablet-reads
 use Rattle.tape.proofs.next_at.Reads as next-at-reads
-use Rattle.tape.proofs.placements_after.Reads as placements-after-reads
-use Rattle.tape.proofs.retirements_after.Reads as retirements-after-reads
-use Rattle.tape.proofs.tablets_after.Reads as tablets-after-reads
+use Rattle.answers.proofs.placements_after.Reads as placements-after-reads
+use Rattle.answers.proofs.retirements_after.Reads as retirements-after-reads
+use Rattle.answers.proofs.tablets_after.Reads as tablets-after-reads
 use Rattle.tape.proofs.write_answer.Reads as write-answer-reads
 
 abbrev Inv-loop : tie.InvT-loop

@@ -1,5 +1,5 @@
 use borrow.Author.Tests.{eq-eqb, ne-eqb, lt-ltb, le-ltb}
-use Rattle.tape.specs.Tape.{sizeOf}
+use Rattle.answers.specs.Turns.{sizeOf}
 use borrow.Author.Needs.{needs}
 use Rattle.tape.proofs.size_of.Statement.{statement}
 use Rattle.tape.proofs.size_of.Tie as tie

@@ -1,7 +1,7 @@
--- `tape::reason_of` meets its contract. Assumes nothing.
-use Rattle.tape.proofs.Loop.{reasoning}
-use Rattle.tape.proofs.reason_of.Statement.{statement}
-use Rattle.tape.proofs.reason_of.Tie as tie
+-- `answers::reason_of` meets its contract. Assumes nothing.
+use Rattle.answers.proofs.Fits.{reasoning}
+use Rattle.answers.proofs.reason_of.Statement.{statement}
+use Rattle.answers.proofs.reason_of.Tie as tie
 
 name-at-requires : tie.Need-name-at-requires
 name-at-requires c κs = search reasoning

@@ -1,7 +1,7 @@
--- `tape::directory_answer` meets its contract. Assumes nothing.
-use Rattle.tape.proofs.Loop.{deciding-directory}
-use Rattle.tape.proofs.directory_answer.Statement.{statement}
-use Rattle.tape.proofs.directory_answer.Tie as tie
+-- `answers::directory_answer` meets its contract. Assumes nothing.
+use Rattle.answers.proofs.Fits.{deciding-directory}
+use Rattle.answers.proofs.directory_answer.Statement.{statement}
+use Rattle.answers.proofs.directory_answer.Tie as tie
 
 admitted-requires : tie.Need-admitted-requires
 admitted-requires c κs = search deciding-directory

@@ -48,8 +48,8 @@ use Rattle.metadata.specs.declared.Placements.{Placements}
 use Rattle.metadata.specs.declared.TabletDescriptor.{TabletDescriptor}
 use Rattle.metadata.specs.declared.Tablets.{Tablets}
 use Rattle.metadata.proofs.AnswerLaws.{stop, go-on}
-use Rattle.tape.specs.Tape.{isCommand, commandAt, storeOf, admitted}
-use Rattle.tape.proofs.Changing.{bounds}
+use Rattle.answers.specs.Turns.{isCommand, commandAt, storeOf, admitted}
+use Rattle.answers.proofs.Changing.{bounds}
 
 -- ---- the lowest reason
 

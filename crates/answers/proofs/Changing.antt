@@ -58,7 +58,7 @@ use Rattle.soundness.proofs.Steps.{
 }
 use Rattle.tablets.proofs.Decided.{tablet-put}
 use Rattle.retirements.proofs.Applied.{retirement-put}
-use Rattle.tape.specs.Tape.{isCommand, sizeOf, commandAt, storeOf, directoryAfter, DirectoryChange}
+use Rattle.answers.specs.Turns.{isCommand, sizeOf, commandAt, storeOf, directoryAfter, DirectoryChange}
 
 -- ---- which command it is
 

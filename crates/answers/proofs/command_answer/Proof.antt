@@ -1,9 +1,9 @@
--- `tape::command_answer` meets its contract. Assumes nothing.
+-- `answers::command_answer` meets its contract. Assumes nothing.
 use borrow.Author.Needs.{needs}
 use mathlib.Core.Path.{refl}
-use Rattle.tape.proofs.Answering.{beside}
-use Rattle.tape.proofs.command_answer.Statement.{statement}
-use Rattle.tape.proofs.command_answer.Tie as tie
+use Rattle.answers.proofs.Answering.{beside}
+use Rattle.answers.proofs.command_answer.Statement.{statement}
+use Rattle.answers.proofs.command_answer.Tie as tie
 
 catalog-answer-requires : tie.Need-catalog-answer-requires
 catalog-answer-requires c κs = search needs

@@ -1,7 +1,7 @@
--- `tape::node_answer` meets its contract. Assumes nothing.
-use Rattle.tape.proofs.Loop.{deciding-node}
-use Rattle.tape.proofs.node_answer.Statement.{statement}
-use Rattle.tape.proofs.node_answer.Tie as tie
+-- `answers::node_answer` meets its contract. Assumes nothing.
+use Rattle.answers.proofs.Fits.{deciding-node}
+use Rattle.answers.proofs.node_answer.Statement.{statement}
+use Rattle.answers.proofs.node_answer.Tie as tie
 
 admitted-requires : tie.Need-admitted-requires
 admitted-requires c κs = search deciding-node

@@ -1,10 +1,10 @@
-use Rattle.tape.proofs.Changing.{tablets-so}
-use Rattle.tape.proofs.Loop.{size-4}
+use Rattle.answers.proofs.Changing.{tablets-so}
+use Rattle.answers.proofs.Fits.{size-4}
 use borrow.Author.Needs.{needs}
-use Rattle.tape.proofs.tablets_after.Statement.{statement}
-use Rattle.tape.proofs.tablets_after.Tie as tie
-use Rattle.tape.proofs.tablets_after.Reads as reads
-use Rattle.tape.proofs.tablets_after.Lts as lts
+use Rattle.answers.proofs.tablets_after.Statement.{statement}
+use Rattle.answers.proofs.tablets_after.Tie as tie
+use Rattle.answers.proofs.tablets_after.Reads as reads
+use Rattle.answers.proofs.tablets_after.Lts as lts
 use Rattle.decode.proofs.tablet_at.Reads as tablet-at-reads
 use Rattle.tablet_rows.proofs.insert_tablet.Reads as insert-tablet-reads
 

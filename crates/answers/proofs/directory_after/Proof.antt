@@ -1,9 +1,9 @@
-use Rattle.tape.proofs.Changing.{changing}
+use Rattle.answers.proofs.Changing.{changing}
 use borrow.Author.Needs.{needs}
-use Rattle.tape.proofs.directory_after.Statement.{statement}
-use Rattle.tape.proofs.directory_after.Tie as tie
-use Rattle.tape.proofs.directory_after.Reads as reads
-use Rattle.tape.proofs.directory_after.Lts as lts
+use Rattle.answers.proofs.directory_after.Statement.{statement}
+use Rattle.answers.proofs.directory_after.Tie as tie
+use Rattle.answers.proofs.directory_after.Reads as reads
+use Rattle.answers.proofs.directory_after.Lts as lts
 use Rattle.decode.proofs.name_at.Reads as name-at-reads
 use Rattle.decode.proofs.node_at.Reads as node-at-reads
 use Rattle.decode.proofs.number8.Reads as number8-reads

@@ -1,7 +1,7 @@
--- `tape::catalog_answer` meets its contract. Assumes nothing.
-use Rattle.tape.proofs.Loop.{deciding}
-use Rattle.tape.proofs.catalog_answer.Statement.{statement}
-use Rattle.tape.proofs.catalog_answer.Tie as tie
+-- `answers::catalog_answer` meets its contract. Assumes nothing.
+use Rattle.answers.proofs.Fits.{deciding}
+use Rattle.answers.proofs.catalog_answer.Statement.{statement}
+use Rattle.answers.proofs.catalog_answer.Tie as tie
 
 admitted-requires : tie.Need-admitted-requires
 admitted-requires c κs = search deciding

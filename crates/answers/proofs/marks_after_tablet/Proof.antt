@@ -1,10 +1,10 @@
-use Rattle.tape.proofs.Changing.{tablet-raises}
-use Rattle.tape.proofs.Loop.{size-4}
+use Rattle.answers.proofs.Changing.{tablet-raises}
+use Rattle.answers.proofs.Fits.{size-4}
 use borrow.Author.Needs.{needs}
-use Rattle.tape.proofs.marks_after_tablet.Statement.{statement}
-use Rattle.tape.proofs.marks_after_tablet.Tie as tie
-use Rattle.tape.proofs.marks_after_tablet.Reads as reads
-use Rattle.tape.proofs.marks_after_tablet.Lts as lts
+use Rattle.answers.proofs.marks_after_tablet.Statement.{statement}
+use Rattle.answers.proofs.marks_after_tablet.Tie as tie
+use Rattle.answers.proofs.marks_after_tablet.Reads as reads
+use Rattle.answers.proofs.marks_after_tablet.Lts as lts
 use Rattle.decode.proofs.tablet_at.Reads as tablet-at-reads
 use Rattle.tablets.proofs.raised_by_tablet.Reads as raised-by-tablet-reads
 

@@ -1,10 +1,10 @@
-use Rattle.tape.proofs.Changing.{placements-so}
-use Rattle.tape.proofs.Loop.{size-5}
+use Rattle.answers.proofs.Changing.{placements-so}
+use Rattle.answers.proofs.Fits.{size-5}
 use borrow.Author.Needs.{needs}
-use Rattle.tape.proofs.placements_after.Statement.{statement}
-use Rattle.tape.proofs.placements_after.Tie as tie
-use Rattle.tape.proofs.placements_after.Reads as reads
-use Rattle.tape.proofs.placements_after.Lts as lts
+use Rattle.answers.proofs.placements_after.Statement.{statement}
+use Rattle.answers.proofs.placements_after.Tie as tie
+use Rattle.answers.proofs.placements_after.Reads as reads
+use Rattle.answers.proofs.placements_after.Lts as lts
 use Rattle.decode.proofs.placement_at.Reads as placement-at-reads
 use Rattle.placements.proofs.put_placement.Reads as put-placement-reads
 

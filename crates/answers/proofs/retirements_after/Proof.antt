@@ -1,10 +1,10 @@
-use Rattle.tape.proofs.Changing.{retirements-so}
-use Rattle.tape.proofs.Loop.{size-6}
+use Rattle.answers.proofs.Changing.{retirements-so}
+use Rattle.answers.proofs.Fits.{size-6}
 use borrow.Author.Needs.{needs}
-use Rattle.tape.proofs.retirements_after.Statement.{statement}
-use Rattle.tape.proofs.retirements_after.Tie as tie
-use Rattle.tape.proofs.retirements_after.Reads as reads
-use Rattle.tape.proofs.retirements_after.Lts as lts
+use Rattle.answers.proofs.retirements_after.Statement.{statement}
+use Rattle.answers.proofs.retirements_after.Tie as tie
+use Rattle.answers.proofs.retirements_after.Reads as reads
+use Rattle.answers.proofs.retirements_after.Lts as lts
 use Rattle.decode.proofs.retirement_at.Reads as retirement-at-reads
 use Rattle.retirement_rows.proofs.insert_retirement.Reads as insert-retirement-reads
 

@@ -1,10 +1,10 @@
-use Rattle.tape.proofs.Changing.{placement-raises}
-use Rattle.tape.proofs.Loop.{size-5}
+use Rattle.answers.proofs.Changing.{placement-raises}
+use Rattle.answers.proofs.Fits.{size-5}
 use borrow.Author.Needs.{needs}
-use Rattle.tape.proofs.marks_after_placement.Statement.{statement}
-use Rattle.tape.proofs.marks_after_placement.Tie as tie
-use Rattle.tape.proofs.marks_after_placement.Reads as reads
-use Rattle.tape.proofs.marks_after_placement.Lts as lts
+use Rattle.answers.proofs.marks_after_placement.Statement.{statement}
+use Rattle.answers.proofs.marks_after_placement.Tie as tie
+use Rattle.answers.proofs.marks_after_placement.Reads as reads
+use Rattle.answers.proofs.marks_after_placement.Lts as lts
 use Rattle.decode.proofs.placement_at.Reads as placement-at-reads
 use Rattle.tablets.proofs.raised_by_placement.Reads as raised-by-placement-reads
 

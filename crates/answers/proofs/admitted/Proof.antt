@@ -1,8 +1,8 @@
--- `tape::admitted` meets its contract. Assumes nothing.
+-- `answers::admitted` meets its contract. Assumes nothing.
 use borrow.Author.Needs.{needs}
-use Rattle.tape.proofs.Answering.{invalid-early, unnamed-early, none-early}
-use Rattle.tape.proofs.admitted.Statement.{statement}
-use Rattle.tape.proofs.admitted.Tie as tie
+use Rattle.answers.proofs.Answering.{invalid-early, unnamed-early, none-early}
+use Rattle.answers.proofs.admitted.Statement.{statement}
+use Rattle.answers.proofs.admitted.Tie as tie
 
 reason-of-requires : tie.Need-reason-of-requires
 reason-of-requires c κs = search needs
