@@ -1,26 +1,22 @@
-// Document 01, "Room and admission": the reason of each command, the lowest that applies, 0 if none does; and whether an opening is admitted.
+// Document 01, "Room and admission": the reason of each command but a placement, the lowest that applies, 0 if none does; and whether an opening is admitted.
 ghost use mathlib.Core.Path.{_≡_};
 ghost use mathlib.Core.Bool.{false, cond, _&&_};
 ghost use lib.Dec.{leb};
-ghost use lib.ListN.{take, drop};
+ghost use lib.ListN.{take};
 ghost use lib.Seq.{slice};
 ghost use Rattle.laws.specs.Lists.{every, any, noneTwice};
 ghost use Rattle.metadata.specs.Rooms.{tableRoom};
 ghost use Rattle.metadata.specs.Texts.{keyText, keyAdmitted, blank, endpointAdmitted, sameName};
 ghost use Rattle.metadata.specs.Ranges.{admittedb};
-ghost use Rattle.metadata.specs.Tables.{endpoints, desired, isZeroId, isZeroReplica};
-ghost use Rattle.metadata.specs.Commands.{lowest, namingFaults, nodeFaults, lifecycleFaults, tabletFaults, placementFaults, retirementFaults, nodeTextsAdmitted, partitionAdmitted, replicasAdmitted, minimaAdmitted, leadersAdmitted, classBlank, sameId, sameTableId, openingAdmitted};
-ghost use Rattle.admission.specs.Tests.{hashAdmitted, rangeAdmitted, countAdmitted, zeroInside, placementZeroId, badRole, sharesId, policyFaults, unset};
-use metadata::DesiredReplica;
-use metadata::DesiredReplicaPlacement;
+ghost use Rattle.metadata.specs.Tables.{endpoints};
+ghost use Rattle.metadata.specs.Commands.{lowest, namingFaults, nodeFaults, lifecycleFaults, tabletFaults, retirementFaults, nodeTextsAdmitted, partitionAdmitted, sameTableId, openingAdmitted};
+ghost use Rattle.admission.specs.Tests.{hashAdmitted, rangeAdmitted, unset};
 use metadata::Key;
 use metadata::Label;
 use metadata::Name;
 use metadata::NodeDescriptor;
 use metadata::NodeId;
 use metadata::PartitionSpec;
-use metadata::PlacementPolicy;
-use metadata::REPLICA_ROOM;
 use metadata::RetiredReplicaLifetime;
 use metadata::TABLE_ROOM;
 use metadata::TableRow;
@@ -28,8 +24,6 @@ use metadata::TabletDescriptor;
 
 // Reason 5: "lifecycle above 4, a used role or partition kind above 1".
 const LAST_LIFECYCLE: u8 = 4;
-
-const LAST_ROLE: u8 = 1;
 
 const LAST_KIND: u8 = 1;
 
@@ -177,289 +171,6 @@ pub fn tablet_reason(t: TabletDescriptor) -> u8
         return 6;
     }
     0
-}
-
-fn zero_inside(r: DesiredReplica) -> bool
-    ensures { λ b. ⌜ b ≡ zeroInside r ⌝ }
-{
-    (r.replica_id.0 == 0) | (r.node_id.0 == 0)
-}
-
-// One of the first n has no replica id or no host.
-fn any_zero_id(replicas: [DesiredReplica; REPLICA_ROOM], n: u8) -> bool
-    ensures { λ r. ⌜ r ≡ any zeroInside (take n replicas) ⌝ }
-{
-    let to = n as usize;
-    let mut i: usize = 0;
-    while i < to {
-        if REPLICA_ROOM <= i {
-            return false;
-        }
-        if zero_inside(replicas[i]) {
-            return true;
-        }
-        i += 1;
-    }
-    false
-}
-
-fn bad_role(r: DesiredReplica) -> bool
-    ensures { λ b. ⌜ b ≡ badRole r ⌝ }
-{
-    LAST_ROLE < r.role
-}
-
-// One of the first n has a role that there is not.
-fn any_bad_role(replicas: [DesiredReplica; REPLICA_ROOM], n: u8) -> bool
-    ensures { λ r. ⌜ r ≡ any badRole (take n replicas) ⌝ }
-{
-    let to = n as usize;
-    let mut i: usize = 0;
-    while i < to {
-        if REPLICA_ROOM <= i {
-            return false;
-        }
-        if bad_role(replicas[i]) {
-            return true;
-        }
-        i += 1;
-    }
-    false
-}
-
-fn shares_id(a: DesiredReplica, b: DesiredReplica) -> bool
-    ensures { λ r. ⌜ r ≡ sharesId a b ⌝ }
-{
-    (a.replica_id.0 == b.replica_id.0) | (a.node_id.0 == b.node_id.0)
-}
-
-// One from `from` up to `to` has this one's replica id or host.
-fn replica_again(
-    x: DesiredReplica,
-    replicas: [DesiredReplica; REPLICA_ROOM],
-    from: usize,
-    to: usize,
-) -> bool
-    ensures { λ r. ⌜ r ≡ any (sharesId x) (slice from to replicas) ⌝ }
-{
-    let mut j = from;
-    while j < to {
-        if REPLICA_ROOM <= j {
-            return false;
-        }
-        if shares_id(x, replicas[j]) {
-            return true;
-        }
-        j += 1;
-    }
-    false
-}
-
-// No replica id and no host twice among the first n.
-fn replicas_differ(replicas: [DesiredReplica; REPLICA_ROOM], n: u8) -> bool
-    ensures { λ r. ⌜ r ≡ noneTwice sharesId (take n replicas) ⌝ }
-{
-    let to = n as usize;
-    let mut i: usize = 0;
-    while i < to {
-        if REPLICA_ROOM <= i {
-            return true;
-        }
-        let x = replicas[i];
-        if replica_again(x, replicas, i + 1, to) {
-            return false;
-        }
-        i += 1;
-    }
-    true
-}
-
-// The places from `from` on are zero.
-fn replicas_clear(replicas: [DesiredReplica; REPLICA_ROOM], from: u8) -> bool
-    ensures { λ r. ⌜ r ≡ every isZeroReplica (drop from replicas) ⌝ }
-{
-    let mut i = from as usize;
-    while i < REPLICA_ROOM {
-        if records::is_zero_replica(replicas[i]) {
-            i += 1;
-        } else {
-            return false;
-        }
-    }
-    true
-}
-
-fn count_admitted(n: u8, factor: u32) -> bool
-    ensures { λ r. ⌜ r ≡ countAdmitted n factor ⌝ }
-{
-    (1 <= n) & ((n as usize) <= REPLICA_ROOM) & (factor == (n as u32))
-}
-
-// Reason 7 does not apply.
-pub fn replicas_admitted(p: DesiredReplicaPlacement) -> bool
-    ensures { λ r. ⌜ r ≡ replicasAdmitted p ⌝ }
-{
-    let replicas = p.replicas;
-    count_admitted(p.replica_count, p.placement_policy.replication_factor)
-        & replicas_differ(replicas, p.replica_count)
-        & replicas_clear(replicas, p.replica_count)
-}
-
-// Reason 8 does not apply.
-pub fn minima_admitted(q: PlacementPolicy) -> bool
-    ensures { λ r. ⌜ r ≡ minimaAdmitted q ⌝ }
-{
-    (q.min_distinct_regions <= q.replication_factor)
-        & (q.min_distinct_zones <= q.replication_factor)
-        & (q.min_distinct_racks <= q.replication_factor)
-}
-
-fn is_zero_id(n: NodeId) -> bool
-    ensures { λ r. ⌜ r ≡ isZeroId n ⌝ }
-{
-    n.0 == 0
-}
-
-// One of the first n is zero.
-fn any_zero_leader(ids: [NodeId; REPLICA_ROOM], n: u8) -> bool
-    ensures { λ r. ⌜ r ≡ any isZeroId (take n ids) ⌝ }
-{
-    let to = n as usize;
-    let mut i: usize = 0;
-    while i < to {
-        if REPLICA_ROOM <= i {
-            return false;
-        }
-        if is_zero_id(ids[i]) {
-            return true;
-        }
-        i += 1;
-    }
-    false
-}
-
-fn same_id(a: NodeId, b: NodeId) -> bool
-    ensures { λ r. ⌜ r ≡ sameId a b ⌝ }
-{
-    a.0 == b.0
-}
-
-fn leader_again(x: NodeId, ids: [NodeId; REPLICA_ROOM], from: usize, to: usize) -> bool
-    ensures { λ r. ⌜ r ≡ any (sameId x) (slice from to ids) ⌝ }
-{
-    let mut j = from;
-    while j < to {
-        if REPLICA_ROOM <= j {
-            return false;
-        }
-        if same_id(x, ids[j]) {
-            return true;
-        }
-        j += 1;
-    }
-    false
-}
-
-// No id twice among the first n.
-fn leaders_differ(ids: [NodeId; REPLICA_ROOM], n: u8) -> bool
-    ensures { λ r. ⌜ r ≡ noneTwice sameId (take n ids) ⌝ }
-{
-    let to = n as usize;
-    let mut i: usize = 0;
-    while i < to {
-        if REPLICA_ROOM <= i {
-            return true;
-        }
-        let x = ids[i];
-        if leader_again(x, ids, i + 1, to) {
-            return false;
-        }
-        i += 1;
-    }
-    true
-}
-
-// The places from `from` on are zero.
-fn leaders_clear(ids: [NodeId; REPLICA_ROOM], from: u8) -> bool
-    ensures { λ r. ⌜ r ≡ every isZeroId (drop from ids) ⌝ }
-{
-    let mut i = from as usize;
-    while i < REPLICA_ROOM {
-        if is_zero_id(ids[i]) {
-            i += 1;
-        } else {
-            return false;
-        }
-    }
-    true
-}
-
-// Reason 9 does not apply.
-pub fn leaders_admitted(q: PlacementPolicy) -> bool
-    ensures { λ r. ⌜ r ≡ leadersAdmitted q ⌝ }
-{
-    let ids = q.preferred_leader_nodes;
-    ((q.preferred_leader_count as usize) <= REPLICA_ROOM)
-        & !any_zero_leader(ids, q.preferred_leader_count)
-        & leaders_differ(ids, q.preferred_leader_count)
-        & leaders_clear(ids, q.preferred_leader_count)
-}
-
-// Reason 4: a class that is asked for, empty or all spaces.
-pub fn class_blank(q: PlacementPolicy) -> bool
-    ensures { λ r. ⌜ r ≡ classBlank q ⌝ }
-{
-    q.required_storage_class.present & label_blank(q.required_storage_class.text)
-}
-
-// The faults of a placement's ids: reason 1.
-fn placement_zero_id(p: DesiredReplicaPlacement) -> bool
-    ensures { λ r. ⌜ r ≡ placementZeroId p ⌝ }
-{
-    let replicas = p.replicas;
-    (p.tablet_id.0 == 0) | any_zero_id(replicas, p.replica_count)
-}
-
-// A used role: reason 5.
-fn placement_bad_role(p: DesiredReplicaPlacement) -> bool
-    ensures { λ r. ⌜ r ≡ any badRole (desired p) ⌝ }
-{
-    let replicas = p.replicas;
-    any_bad_role(replicas, p.replica_count)
-}
-
-// The last two reasons of a placement.
-fn policy_reason(q: PlacementPolicy) -> u8
-    ensures { λ r. ⌜ r ≡ lowest (policyFaults q) ⌝ }
-{
-    if !minima_admitted(q) {
-        return 8;
-    }
-    if !leaders_admitted(q) {
-        return 9;
-    }
-    0
-}
-
-pub fn placement_reason(p: DesiredReplicaPlacement) -> u8
-    ensures { λ r. ⌜ r ≡ lowest (placementFaults p) ⌝ }
-{
-    if placement_zero_id(p) {
-        return 1;
-    }
-    if !fields::optional_admitted(p.placement_policy.required_storage_class) {
-        return 2;
-    }
-    if class_blank(p.placement_policy) {
-        return 4;
-    }
-    if placement_bad_role(p) {
-        return 5;
-    }
-    if !replicas_admitted(p) {
-        return 7;
-    }
-    policy_reason(p.placement_policy)
 }
 
 fn is_unset(t: TableRow) -> bool

@@ -43,7 +43,7 @@ fn reason_of(b: u8, tape: &[u8], at: usize) -> u8
         return admission::tablet_reason(decode::tablet_at(tape, at));
     }
     if b == 5 {
-        return admission::placement_reason(decode::placement_at(tape, at));
+        return placement_admission::placement_reason(decode::placement_at(tape, at));
     }
     if b == 6 {
         return admission::retirement_reason(decode::retirement_at(tape, at));
