@@ -198,7 +198,7 @@ pub fn marks_after_tablet(
     requires { ⌜ Operands 4 b (now tape) at ⌝ }
     ensures { λ r. ⌜ r ≡ raisedByTablet (tabletAt (now (tape .entry)) at) marks ⌝ }
 {
-    tablets::raised_by_tablet(marks, decode::tablet_at(tape, at))
+    marks::raised_by_tablet(marks, decode::tablet_at(tape, at))
 }
 
 // Inner: the same for a placement.
@@ -219,7 +219,7 @@ pub fn marks_after_placement(
     requires { ⌜ Operands 5 b (now tape) at ⌝ }
     ensures { λ r. ⌜ r ≡ raisedByPlacement (placementAt (now (tape .entry)) at) marks ⌝ }
 {
-    tablets::raised_by_placement(marks, decode::placement_at(tape, at))
+    marks::raised_by_placement(marks, decode::placement_at(tape, at))
 }
 
 // Inner: the same for a retirement.

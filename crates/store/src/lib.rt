@@ -82,7 +82,7 @@ fn marks_after_tablet(
     ensures { λ r. ⌜ r ≡ cond (isApplied answer) (raisedByTablet t m) m ⌝ }
 {
     if is_applied(answer) {
-        return tablets::raised_by_tablet(m, t);
+        return marks::raised_by_tablet(m, t);
     }
     m
 }
@@ -242,7 +242,7 @@ fn marks_after_placement(
     ensures { λ r. ⌜ r ≡ cond (isApplied answer) (raisedByPlacement p m) m ⌝ }
 {
     if is_applied(answer) {
-        return tablets::raised_by_placement(m, p);
+        return marks::raised_by_placement(m, p);
     }
     m
 }

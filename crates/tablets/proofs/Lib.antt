@@ -2,4 +2,3 @@
 pub mod Any
 pub mod Decided
 pub mod TabletLaws
-pub mod MarkLaws

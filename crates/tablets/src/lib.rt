@@ -1,9 +1,9 @@
-// Tablets, completeness, and the marks that a tablet or a placement raises.
+// Tablets and completeness.
 ghost use mathlib.Core.Path.{_≡_};
 ghost use mathlib.Core.Bool.{true, cond};
 ghost use Prim.Native.Nat.{_≤_};
 ghost use lib.Dec.{leb};
-ghost use lib.ListN.{length, take};
+ghost use lib.ListN.{length};
 ghost use Rattle.laws.specs.Keyed.{put};
 ghost use Rattle.laws.specs.Lists.{any, tally};
 ghost use Rattle.metadata.specs.Rooms.{tabletRoom};
@@ -11,19 +11,13 @@ ghost use Rattle.metadata.specs.Answers.{isApplied};
 ghost use Rattle.metadata.specs.Tables.{tabletKey, tableOf, isZeroTablet};
 ghost use Rattle.metadata.specs.Commands.{tablet};
 ghost use Rattle.metadata.specs.Tablets.{isHash, inTable, holdsBucket, overlapAt, judgeHash, judgeRange, judgeNewTablet, judgeTablet, isComplete};
-ghost use Rattle.metadata.specs.Model.{viewTables, viewTablets, packTablets, decided, raisedByTablet, raisedByPlacement, highestReplica};
+ghost use Rattle.metadata.specs.Model.{viewTables, viewTablets, packTablets, decided};
 ghost use Rattle.metadata.specs.Sound.{soundTable};
 use admission::tablet_reason;
 use fields::partitions_overlap;
 use laws::Found;
-use marks::larger;
-use marks::raise_in;
 use metadata::Answer;
-use metadata::DesiredReplica;
-use metadata::DesiredReplicaPlacement;
-use metadata::MetadataAllocatorState;
 use metadata::OptionalName;
-use metadata::REPLICA_ROOM;
 use metadata::TABLET_ROOM;
 use metadata::TableId;
 use metadata::TableRow;
@@ -222,42 +216,6 @@ pub fn is_complete(k: TableId, tables: Tables, tablets: Tablets) -> bool
     };
     let limit = table_at(tables, i).tablet_count;
     count_in_table(k, tablets) == (limit as usize)
-}
-
-// The marks after an Applied tablet.
-pub fn raised_by_tablet(m: MetadataAllocatorState, t: TabletDescriptor) -> MetadataAllocatorState
-    ensures { λ r. ⌜ r ≡ raisedByTablet t m ⌝ }
-{
-    raise_in(m, 0, t.tablet_id.0, t.raft_group_id.0, 0)
-}
-
-// The mark, raised by the number of each of the first n replicas.
-fn highest_replica(replicas: [DesiredReplica; REPLICA_ROOM], n: u8, mark: u64) -> u64
-    ensures { λ r. ⌜ r ≡ highestReplica (take n replicas) mark ⌝ }
-{
-    let to = n as usize;
-    let mut high = mark;
-    let mut i: usize = 0;
-    while i < to {
-        if REPLICA_ROOM <= i {
-            return high;
-        }
-        high = larger(high, replicas[i].replica_id.0);
-        i += 1;
-    }
-    high
-}
-
-// The marks after an Applied placement.
-pub fn raised_by_placement(
-    m: MetadataAllocatorState,
-    p: DesiredReplicaPlacement,
-) -> MetadataAllocatorState
-    ensures { λ r. ⌜ r ≡ raisedByPlacement p m ⌝ }
-{
-    let replicas = p.replicas;
-    let highest = highest_replica(replicas, p.replica_count, 0);
-    raise_in(m, 0, 0, 0, highest)
 }
 
 // What the handler gives: the answer, and the one table that it changes.

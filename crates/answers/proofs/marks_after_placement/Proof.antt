@@ -6,7 +6,7 @@ use Rattle.answers.proofs.marks_after_placement.Tie as tie
 use Rattle.answers.proofs.marks_after_placement.Reads as reads
 use Rattle.answers.proofs.marks_after_placement.Lts as lts
 use Rattle.decode.proofs.placement_at.Reads as placement-at-reads
-use Rattle.tablets.proofs.raised_by_placement.Reads as raised-by-placement-reads
+use Rattle.marks.proofs.raised_by_placement.Reads as raised-by-placement-reads
 
 -- src/lib.rt:258:41
 placement-at-requires : tie.Need-placement-at-requires

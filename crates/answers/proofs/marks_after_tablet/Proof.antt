@@ -6,7 +6,7 @@ use Rattle.answers.proofs.marks_after_tablet.Tie as tie
 use Rattle.answers.proofs.marks_after_tablet.Reads as reads
 use Rattle.answers.proofs.marks_after_tablet.Lts as lts
 use Rattle.decode.proofs.tablet_at.Reads as tablet-at-reads
-use Rattle.tablets.proofs.raised_by_tablet.Reads as raised-by-tablet-reads
+use Rattle.marks.proofs.raised_by_tablet.Reads as raised-by-tablet-reads
 
 -- src/lib.rt:238:38
 tablet-at-requires : tie.Need-tablet-at-requires

@@ -5,7 +5,7 @@ use Rattle.store.proofs.marks_after_placement.Tie as tie
 use Rattle.store.proofs.marks_after_placement.Reads as reads
 use Rattle.store.proofs.marks_after_placement.Lts as lts
 use Rattle.metadata.proofs.is_applied.Reads as is-applied-reads
-use Rattle.tablets.proofs.raised_by_placement.Reads as raised-by-placement-reads
+use Rattle.marks.proofs.raised_by_placement.Reads as raised-by-placement-reads
 
 -- src/lib.rt:244:8
 is-applied-requires : tie.Need-is-applied-requires

@@ -6,7 +6,7 @@ use Rattle.store.proofs.marks_after_tablet.Tie as tie
 use Rattle.store.proofs.marks_after_tablet.Reads as reads
 use Rattle.store.proofs.marks_after_tablet.Lts as lts
 use Rattle.metadata.proofs.is_applied.Reads as is-applied-reads
-use Rattle.tablets.proofs.raised_by_tablet.Reads as raised-by-tablet-reads
+use Rattle.marks.proofs.raised_by_tablet.Reads as raised-by-tablet-reads
 
 -- src/lib.rt:79:8
 is-applied-requires : tie.Need-is-applied-requires

@@ -1,11 +1,11 @@
--- `tablets::highest_replica` meets its contract. Assumes nothing.
+-- `marks::highest_replica` meets its contract. Assumes nothing.
 use Prim.Native.Nat.{_-_}
 use Rattle.metadata.specs.Rooms.{replicaRoom}
 use Rattle.metadata.specs.Tables.{zeroReplica}
 use Rattle.metadata.specs.declared.DesiredReplica.{DesiredReplica}
-use Rattle.tablets.proofs.MarkLaws.{Raising, raising}
-use Rattle.tablets.proofs.highest_replica.Statement.{statement}
-use Rattle.tablets.proofs.highest_replica.Tie as tie
+use Rattle.marks.proofs.MarkLaws.{Raising, raising}
+use Rattle.marks.proofs.highest_replica.Statement.{statement}
+use Rattle.marks.proofs.highest_replica.Tie as tie
 
 abbrev Inv-loop : tie.InvT-loop
 Inv-loop n mark replicas to high₀ i₀ high i = Raising zeroReplica (λ (r : DesiredReplica). r .«replica_id» .0) replicaRoom to replicas mark i high
