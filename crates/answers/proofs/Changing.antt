@@ -8,15 +8,15 @@ use lib.Dec.{leb}
 use lib.ListN.{length}
 use borrow.Author.Tests.{leb-true}
 use Rattle.laws.specs.Keyed.{has, put}
-use Rattle.laws.proofs.ListLaws.{and-both, cond-true}
+use Rattle.laws.proofs.ListLaws.{and-both}
 use Rattle.decode.specs.Decode.{numberAt, byteAt, nameAt, nodeAt, tabletAt, placementAt, retirementAt}
 use Rattle.metadata.specs.Rooms.{nodeRoom}
-use Rattle.metadata.specs.Answers.{isApplied, _⊳_, refuse}
+use Rattle.metadata.specs.Answers.{isApplied}
 use Rattle.metadata.specs.Tables.{nodeKey, isZeroNode}
-use Rattle.metadata.specs.Commands.{Command, naming, registering, lifecycle, tablet, placement, retirement, picking, lowest}
+use Rattle.metadata.specs.Commands.{Command, naming, registering, lifecycle, tablet, placement, retirement, picking}
 use Rattle.metadata.specs.Labels.{judgePicking}
 use Rattle.metadata.specs.Nodes.{registeredNodes, movedNodes}
-use Rattle.metadata.specs.Model.{admission, decided, decide, step, view, viewNodes, viewTables, viewTablets, viewPlacements, viewRetirements, packNodes, raisedByTablet, raisedByPlacement}
+use Rattle.metadata.specs.Model.{decided, decide, step, view, viewNodes, viewTables, viewTablets, viewPlacements, viewRetirements, packNodes, raisedByTablet, raisedByPlacement}
 use Rattle.metadata.specs.Sound.{soundTable, sound}
 use Rattle.metadata.specs.declared.Answer.{Answer}
 use Rattle.metadata.specs.declared.Answered.{Answered}
@@ -28,7 +28,6 @@ use Rattle.metadata.specs.declared.Name.{Name}
 use Rattle.metadata.specs.declared.NodeDescriptor.{NodeDescriptor}
 use Rattle.metadata.specs.declared.NodeId.{NodeId}
 use Rattle.metadata.specs.declared.Nodes.{Nodes}
-use Rattle.metadata.specs.declared.OptionalName.{OptionalName}
 use Rattle.metadata.specs.declared.Placements.{Placements}
 use Rattle.metadata.specs.declared.RetiredReplicaLifetime.{RetiredReplicaLifetime}
 use Rattle.metadata.specs.declared.Retirements.{Retirements}

@@ -4,7 +4,6 @@ use mathlib.Core.Path.{_≡_, refl, sym, ap, ap₂, _∙_}
 use mathlib.Core.Bool.{Bool, true, false, not, _&&_}
 use mathlib.Core.List.{List}
 use lib.ListN.{length}
-use borrow.Author.Tests.{not-true, not-false}
 use Rattle.laws.specs.Keyed.{has, row}
 use Rattle.laws.proofs.KeyedLaws.{row-either, row-same}
 use Rattle.rows.specs.declared.TabletFound.{TabletFound}
