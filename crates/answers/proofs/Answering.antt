@@ -5,7 +5,6 @@ use mathlib.Core.Path.{_≡_, refl, sym, ap, ap₂, _∙_}
 use mathlib.Core.Bool.{Bool, true, false, not, cond, _&&_}
 use mathlib.Core.List.{List}
 use lib.Dec.{leb}
-use borrow.Author.Needs.{needs}
 use borrow.Author.Tests.{eq-eqb, ne-eqb, leb-true, leb-false, le-leb, lt-leb, not-true, not-false}
 use Rattle.laws.proofs.ListLaws.{and-both}
 use Rattle.decode.specs.Decode.{numberAt, byteAt, nameAt, nodeAt, tabletAt, placementAt, retirementAt}
@@ -47,7 +46,8 @@ use Rattle.metadata.specs.declared.Placements.{Placements}
 use Rattle.metadata.specs.declared.TabletDescriptor.{TabletDescriptor}
 use Rattle.metadata.specs.declared.Tablets.{Tablets}
 use Rattle.metadata.proofs.AnswerLaws.{stop, go-on}
-use Rattle.answers.specs.Turns.{isCommand, commandAt, storeOf, admitted}
+use Rattle.answers.specs.Turns.{storeOf, admitted}
+use Rattle.reading.specs.Reader.{isCommand, commandAt}
 use Rattle.answers.proofs.Changing.{bounds}
 
 -- ---- the lowest reason

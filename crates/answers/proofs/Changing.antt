@@ -2,7 +2,7 @@
 use Prim.Native.Nat.{ℕ, zero, suc, _+_, _≤_, _<_}
 use native.Mathlib.Omega.{arith}
 use mathlib.Core.Path.{_≡_, refl, sym, ap, _∙_, subst}
-use mathlib.Core.Bool.{Bool, true, false, cond}
+use mathlib.Core.Bool.{Bool, true, false}
 use mathlib.Core.List.{List}
 use lib.Dec.{leb}
 use lib.ListN.{length}
@@ -13,7 +13,7 @@ use Rattle.decode.specs.Decode.{numberAt, byteAt, nameAt, nodeAt, tabletAt, pla
 use Rattle.metadata.specs.Rooms.{nodeRoom}
 use Rattle.metadata.specs.Answers.{isApplied}
 use Rattle.metadata.specs.Tables.{nodeKey, isZeroNode}
-use Rattle.metadata.specs.Commands.{Command, naming, registering, lifecycle, tablet, placement, retirement, picking}
+use Rattle.metadata.specs.Commands.{naming, registering, lifecycle, tablet, placement, retirement}
 use Rattle.metadata.specs.Labels.{judgePicking}
 use Rattle.metadata.specs.Nodes.{registeredNodes, movedNodes}
 use Rattle.metadata.specs.Model.{decided, decide, step, view, viewNodes, viewTables, viewTablets, viewPlacements, viewRetirements, packNodes, raisedByTablet, raisedByPlacement}
@@ -57,7 +57,8 @@ use Rattle.soundness.proofs.Steps.{
 }
 use Rattle.tablets.proofs.Decided.{tablet-put}
 use Rattle.retirements.proofs.Applied.{retirement-put}
-use Rattle.answers.specs.Turns.{isCommand, sizeOf, commandAt, storeOf, directoryAfter, DirectoryChange}
+use Rattle.answers.specs.Turns.{storeOf, directoryAfter, DirectoryChange}
+use Rattle.reading.specs.Reader.{isCommand, sizeOf, commandAt}
 
 -- ---- which command it is
 

@@ -7,7 +7,7 @@ use mathlib.Core.List.{List}
 use lib.Dec.{leb}
 use lib.ListN.{length}
 use borrow.Author.Needs.{needs}
-use Rattle.answers.specs.Turns.{sizeOf, Operands}
+use Rattle.reading.specs.Reader.{sizeOf, Operands}
 use Rattle.answers.proofs.Answering.{
   reason-naming,
   reason-node,

@@ -1,11 +1,10 @@
--- One command of the tape (document 01): its byte and operands, what is asked of it, and what it leaves of the store's two parts. Assumes nothing.
+-- One command of the tape (document 01): what is asked of it, and what it leaves of the store's two parts. Assumes nothing.
 use Prim.Native.Nat.{ℕ, _+_, _≤_, _<_}
 use mathlib.Core.Path.{_≡_}
-use mathlib.Core.Bool.{Bool, true, not, cond, _&&_}
+use mathlib.Core.Bool.{true, not, _&&_}
 use mathlib.Core.List.{List}
-use lib.Dec.{leb, eqb}
 use lib.ListN.{length}
-use Rattle.decode.specs.Decode.{numberAt, byteAt, nameAt, nodeAt, tabletAt, placementAt, retirementAt}
+use Rattle.reading.specs.Reader.{isCommand, sizeOf, commandAt}
 use Rattle.metadata.specs.Answers.{isApplied, _⊳_, refuse}
 use Rattle.metadata.specs.Commands.{Command, naming, registering, lifecycle, tablet, placement, retirement, picking, needsName}
 use Rattle.metadata.specs.Model.{admission, decide, view, viewNodes, packNodes}
@@ -17,25 +16,6 @@ use Rattle.metadata.specs.declared.Catalog.{Catalog}
 use Rattle.metadata.specs.declared.Directory.{Directory}
 use Rattle.metadata.specs.declared.OptionalName.{OptionalName}
 use Rattle.metadata.specs.declared.Store.{Store}
-
--- ---- commands
-
--- 01 to 07
-abbrev pub isCommand : ℕ → Bool
-isCommand b = leb 1 b && leb b 7
-
--- how many operand bytes a command has
-unfoldable pub sizeOf : ℕ → ℕ
-sizeOf b = cond (eqb b 1) 49 (cond (eqb b 2) 305 (cond (eqb b 3) 9 (cond (eqb b 4) 107 (cond (eqb b 5) 234 (cond (eqb b 6) 48 0)))))
-
--- the command with this byte and its operands from a place on
-unfoldable pub commandAt : ℕ → List ℕ → ℕ → Command
-commandAt b l at =
-    cond (eqb b 1) (naming (nameAt l at))
-    (cond (eqb b 2) (registering (nodeAt l at))
-    (cond (eqb b 3) (lifecycle (record { 0 = numberAt 8 l at }) (byteAt l (at + 8)))
-    (cond (eqb b 4) (tablet (tabletAt l at))
-    (cond (eqb b 5) (placement (placementAt l at)) (cond (eqb b 6) (retirement (retirementAt l at)) picking)))))
 
 -- what is asked of a command before its own checks
 unfoldable pub admitted : OptionalName → Command → Answer
@@ -55,11 +35,6 @@ directoryAfter (tablet t) d = d
 directoryAfter (placement p) d = d
 directoryAfter (retirement x) d = d
 directoryAfter picking d = d
-
--- the byte is command n's, and its operands stand at the place
-pub record Operands (n b : ℕ) (l : List ℕ) (at : ℕ) : Type 0 where
-  pub is : b ≡ n
-  pub fits : at + sizeOf b ≤ length l
 
 -- one of the three stands at the place, and it is answered Applied on a sound store with this directory
 pub record DirectoryChange (d : Directory) (b : ℕ) (l : List ℕ) (at : ℕ) : Type 0 where

@@ -1,30 +1,29 @@
 -- A chunk of the tape, command by command. Assumes nothing.
-use Prim.Native.Nat.{ℕ, zero, suc, _+_, _-_, _%_, _^_, _≤_, _<_}
+use Prim.Native.Nat.{ℕ, _+_, _-_, _%_, _^_, _≤_, _<_}
 use native.Mathlib.Omega.{arith}
 use mathlib.Core.Path.{_≡_, refl, sym, ap, ap₂, _∙_, subst}
-use mathlib.Core.Bool.{Bool, true, false, cond}
+use mathlib.Core.Bool.{Bool, true, false}
 use mathlib.Core.List.{List, [], _∷_, _++_, append-assoc, append-nil}
-use lib.ListN.{length, take, drop}
+use lib.ListN.{length}
 use borrow.Author.Needs.{needs}
 use Rattle.laws.proofs.ListLaws.{never}
 use Rattle.lines.specs.Lines.{lineText, Appended}
 use Rattle.lines.proofs.Texts.{joined}
 use Rattle.metadata.specs.Answers.{isApplied, reported}
-use Rattle.metadata.specs.Model.{decide, view, step}
-use Rattle.metadata.specs.Sound.{sound, run, answers}
+use Rattle.metadata.specs.Model.{decide, view}
+use Rattle.metadata.specs.Sound.{sound, run}
 use Rattle.metadata.specs.declared.Answer.{Answer}
 use Rattle.metadata.specs.declared.Answer.the-variants as A
 use Rattle.metadata.specs.declared.Answered.{Answered}
 use Rattle.metadata.specs.declared.Reported.{Reported}
 use Rattle.metadata.specs.declared.Store.{Store}
 use Rattle.metadata.proofs.Theorem.{entry-step, step-sound}
-use Rattle.tape.specs.declared.Next.{Next}
-use Rattle.tape.specs.declared.Next.the-variants as N
-use Rattle.tape.specs.Tape.{Reading, ended, stopped, nextAt, readFrom, tapeAnswers}
-use Rattle.answers.specs.Turns.{DirectoryChange, isCommand, sizeOf, commandAt}
+use Rattle.reading.specs.declared.Next.{Next}
+use Rattle.reading.specs.declared.Next.the-variants as N
+use Rattle.reading.specs.Reader.{Reading, stopped, nextAt, readFrom, tapeAnswers, isCommand, sizeOf, commandAt}
+use Rattle.answers.specs.Turns.{DirectoryChange}
 use Rattle.answers.proofs.Changing.{Turned, turned}
-use Rattle.tape.proofs.Reading.{whole, read-whole, read-end, read-unknown, read-cut, next-end}
-use Rattle.chunks.specs.declared.Chunk.{Chunk}
+use Rattle.reading.proofs.Reading.{whole, read-whole, read-end, read-unknown, read-cut, next-end}
 use Rattle.chunks.specs.Chunks.{lineRoom, nextLine, linesText, lineBehind, Fed}
 
 -- ---- one line more

@@ -1,7 +1,7 @@
 -- A chunk of the tape: what was run of it, and the lines of its answers. Assumes nothing.
 use Prim.Native.Nat.{ℕ, _+_, _%_, _^_, _≤_, _<_}
 use mathlib.Core.Path.{_≡_}
-use mathlib.Core.Bool.{Bool, true, false, cond}
+use mathlib.Core.Bool.{true, false, cond}
 use mathlib.Core.List.{List, [], _∷_, _++_}
 use lib.ListN.{length}
 use Rattle.lines.specs.Lines.{lineText, Appended}
@@ -9,8 +9,8 @@ use Rattle.metadata.specs.Answers.{reported}
 use Rattle.metadata.specs.Sound.{sound, run}
 use Rattle.metadata.specs.declared.Answer.{Answer}
 use Rattle.metadata.specs.declared.Store.{Store}
-use Rattle.tape.specs.Tape.{readFrom, tapeAnswers, nextAt}
-use Rattle.tape.specs.declared.Next.the-variants as N
+use Rattle.reading.specs.Reader.{readFrom, tapeAnswers, nextAt}
+use Rattle.reading.specs.declared.Next.the-variants as N
 use Rattle.chunks.specs.declared.Chunk.{Chunk}
 
 -- five numbers of at most twenty digits, and a byte behind each

@@ -16,7 +16,7 @@ use metadata::Answer;
 use metadata::Store;
 use metadata::is_applied;
 use metadata::report;
-use tape::Next;
+use reading::Next;
 
 // The most bytes that a line has: five numbers of twenty digits, and a byte behind each.
 pub const LINE_ROOM: usize = 105;
@@ -52,7 +52,7 @@ pub fn run_chunk(s: Store, chunk: &[u8], from: usize, first: u64, out: &mut [u8]
                 full: true,
             };
         }
-        match tape::next_at(chunk, at) {
+        match reading::next_at(chunk, at) {
             Next::Whole(b, m) => {
                 let place = at + 1;
                 let answer = command_answer(directory, catalog, b, chunk, place);

@@ -7,7 +7,8 @@ use lib.Dec.{leb}
 use lib.ListN.{length}
 use Rattle.metadata.specs.Answers.{isApplied}
 use Rattle.metadata.specs.declared.Store.{Store}
-use Rattle.tape.specs.Tape.{outcome, openTape, finalStore, ran}
+use Rattle.tape.specs.Tape.{outcome, finalStore, ran}
+use Rattle.reading.specs.Reader.{openTape}
 use Rattle.tape.specs.declared.Ran.{Ran}
 use Rattle.lupinadze.specs.Linked.{short, runResult}
 

@@ -15,7 +15,7 @@ use metadata::Answer;
 use metadata::Store;
 use metadata::is_applied;
 use metadata::report;
-use tape::Next;
+use reading::Next;
 
 // How much of the tape is held: the size of io::large_buffer. specs/Feeding.antt names it once more.
 const BUFFER_SIZE: usize = 65536;
@@ -65,7 +65,7 @@ fn moved(buf: [u8; BUFFER_SIZE], at: usize, have: usize) -> [u8; BUFFER_SIZE]
 fn finish(buf: [u8; BUFFER_SIZE], left: usize, line: u64)
     requires { ⌜ left ≤ bufferSize ⌝ }
 {
-    match tape::next_at(&buf[..left], 0) {
+    match reading::next_at(&buf[..left], 0) {
         Next::Cut(b) => {
             print_line(line, Answer::BadTape(2, b));
         }
@@ -164,7 +164,7 @@ fn feed_all(start: Feed) -> Store
 fn run_tape(store: Store, buf: [u8; BUFFER_SIZE], have: usize) -> Store
     requires { ⌜ (sound store ≡ true) × (have ≤ bufferSize) ⌝ }
 {
-    let at = tape::body_at(&buf[..have]);
+    let at = reading::body_at(&buf[..have]);
     if have < at {
         return store;
     }
@@ -224,7 +224,7 @@ fn main() {
     }
     let mut buf = io::large_buffer();
     let have = io::read_full(STDIN_FILENO, &mut buf);
-    let first = tape::open_tape(&buf[..have]);
+    let first = reading::open_tape(&buf[..have]);
     let answer = first.answer;
     let mut store = first.store;
     if is_applied(answer) {

@@ -1,15 +1,14 @@
 -- The ways out of a question to the store. Assumes nothing.
 use Prim.Native.Nat.{ℕ}
-use mathlib.Core.Path.{_≡_, refl, sym, ap, _∙_}
-use mathlib.Core.Bool.{Bool, true, false, cond}
-use mathlib.Core.List.{List}
-use lib.ListN.{take, getD}
+use mathlib.Core.Path.{_≡_, sym, ap, _∙_}
+use mathlib.Core.Bool.{Bool, true, false}
+use lib.ListN.{getD}
 use Rattle.laws.specs.Keyed.{has, row}
 use Rattle.laws.specs.Rows.{findIndex}
 use Rattle.laws.specs.declared.Found.{Found}
 use Rattle.laws.specs.declared.Found.the-variants.{At, Nothing}
 use Rattle.laws.proofs.KeyedLaws.{row-absent}
-use Rattle.laws.proofs.Lookups.{Spot, spot, found-none}
+use Rattle.laws.proofs.Lookups.{spot, found-none}
 use Rattle.metadata.specs.Marks.{nextReplicaId}
 use Rattle.metadata.specs.Tables.{nodeKey, tabletKey, placementKey, retirementKey, zeroNode, zeroTablet, zeroPlacement, zeroRetirement}
 use Rattle.metadata.specs.Tablets.{isComplete}

@@ -1,11 +1,8 @@
 -- What the questions to a store give: first whether the store is sound (reason 12), then what was asked. Assumes nothing.
-use Prim.Native.Nat.{ℕ}
-use mathlib.Core.Bool.{Bool, true, false, cond, _&&_}
-use mathlib.Core.List.{List}
-use Rattle.laws.specs.Keyed.{Keyed, has, row}
+use mathlib.Core.Bool.{true, false, cond}
+use Rattle.laws.specs.Keyed.{has, row}
 use Rattle.metadata.specs.Marks.{nextReplicaId}
 use Rattle.metadata.specs.Tables.{nodeKey, tabletKey, placementKey, retirementKey, zeroNode, zeroTablet, zeroPlacement, zeroRetirement}
-use Rattle.metadata.specs.Labels.{selectInitialPlacement}
 use Rattle.metadata.specs.Tablets.{isComplete}
 use Rattle.metadata.specs.Model.{viewNodes, viewTables, viewTablets, viewPlacements, viewRetirements}
 use Rattle.metadata.specs.Sound.{sound}

@@ -2,40 +2,21 @@
 use Prim.Native.Nat.{ℕ, _*_}
 use mathlib.Core.Path.{_≡_, refl, sym, subst, _∙_}
 use mathlib.Core.Bool.{Bool, true, false, cond}
-use mathlib.Core.List.{List, [], _∷_}
-use lib.Dec.{leb, ltb}
+use mathlib.Core.List.{List}
+use lib.Dec.{leb}
 use lib.ListN.{length}
-use Rattle.laws.proofs.ListLaws.{never, cond-true}
-use Rattle.decode.specs.Decode.{byteAt}
-use Rattle.metadata.specs.Rooms.{tableRoom}
+use Rattle.laws.proofs.ListLaws.{never}
 use Rattle.metadata.specs.Answers.{isApplied}
-use Rattle.metadata.specs.Sound.{sound, run, answers}
-use Rattle.metadata.specs.Opening.{opening, refusedStore}
+use Rattle.metadata.specs.Sound.{run, answers}
 use Rattle.metadata.specs.History.{begun}
 use Rattle.metadata.specs.Claims.{Claims}
 use Rattle.metadata.proofs.Theorem.{history}
-use Rattle.metadata.specs.declared.Answer.the-variants as A
-use Rattle.metadata.specs.declared.Answer.{Answer}
 use Rattle.metadata.specs.declared.Answered.{Answered}
 use Rattle.metadata.specs.declared.Store.{Store}
 use Rattle.tape.specs.declared.Ran.{Ran}
-use Rattle.tape.specs.Tape.{readFrom, tablesOf, groupOf, bodyAt, openTape, outcome, finalStore, ran, TapeClaims}
-
-abbrev refusal : Answer → Answered
-refusal a = record { answer = a; store = refusedStore }
-
-accepted-go : (l : List ℕ) (t u v : Bool) (o : Answered) →
-    isApplied (cond t (refusal (A.BadTape 2 0)) (cond u (refusal (A.InvalidCommand 10)) (cond v (refusal (A.BadTape 2 0)) o)) .answer) ≡ true →
-    o ≡ cond t (refusal (A.BadTape 2 0)) (cond u (refusal (A.InvalidCommand 10)) (cond v (refusal (A.BadTape 2 0)) o))
-accepted-go l true u v o e = absurd (never false e refl)
-accepted-go l false true v o e = absurd (never false e refl)
-accepted-go l false false true o e = absurd (never false e refl)
-accepted-go l false false false o e = refl
-
--- an accepted opening of a tape is the opening of its tables and its group mark
-pub accepted : (l : List ℕ) → isApplied (openTape l .answer) ≡ true → opening (tablesOf l) (groupOf l) ≡ openTape l
-unfolding openTape
-accepted l e = accepted-go l (ltb (length l) 9) (ltb tableRoom (byteAt l 0)) (ltb (length l) (bodyAt l)) (opening (tablesOf l) (groupOf l)) e
+use Rattle.reading.proofs.Opened.{accepted}
+use Rattle.tape.specs.Tape.{outcome, finalStore, ran, TapeClaims}
+use Rattle.reading.specs.Reader.{readFrom, tablesOf, groupOf, bodyAt, openTape}
 
 -- of every tape whose opening is accepted: the final store is what the history says of its commands and their answers
 pub tape-history : (l : List ℕ) → isApplied (openTape l .answer) ≡ true →

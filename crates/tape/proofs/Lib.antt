@@ -1,4 +1,3 @@
-pub mod Reading
 pub mod Running
 pub mod History
 pub mod Loop

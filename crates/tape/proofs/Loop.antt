@@ -1,50 +1,30 @@
--- The ways out of one step, of the run's loop, of the opening and of the whole run, as the code meets them. Assumes nothing.
-use Prim.Native.Nat.{ℕ, zero, suc, _+_, _*_, _/_, _-_, _≤_, _<_}
+-- The ways out of the run's loop and of the whole run, as the code meets them. Assumes nothing.
+use Prim.Native.Nat.{ℕ, _+_, _*_, _/_, _-_, _≤_, _<_}
 use native.Mathlib.Omega.{arith}
 use native.Mathlib.Nat.{div-add-mod', mod-lt}
 use mathlib.Core.Path.{_≡_, refl, sym, ap, ap₂, _∙_, subst}
-use mathlib.Core.Bool.{Bool, true, false, cond, _&&_}
+use mathlib.Core.Bool.{Bool, true, false}
 use mathlib.Core.List.{List, [], _∷_, _++_, append-nil}
-use lib.Dec.{leb, ltb, eqb}
-use lib.ListN.{length, take, drop, getD}
+use lib.ListN.{length, drop}
 use borrow.Author.Needs.{needs}
-use borrow.Author.Tests.{leb-true, le-leb, lt-leb, lt-ltb, le-ltb}
-use Rattle.laws.proofs.ListLaws.{and-both}
-use Rattle.decode.specs.Decode.{byteAt, numberAt, nameAt, nodeAt, tabletAt, placementAt, retirementAt, tableAt, listAt}
-use Rattle.metadata.specs.Rooms.{tableRoom}
+use borrow.Author.Tests.{le-leb, lt-leb}
 use Rattle.metadata.specs.Answers.{reported, isApplied}
-use Rattle.metadata.specs.Commands.{naming, registering, lifecycle, tablet, placement, retirement, picking}
-use Rattle.metadata.specs.Model.{decide, view, step}
+use Rattle.metadata.specs.Model.{decide, view}
 use Rattle.metadata.specs.Sound.{sound, run}
-use Rattle.metadata.specs.Opening.{opening}
 use Rattle.metadata.specs.declared.Answer.{Answer}
 use Rattle.metadata.specs.declared.Answer.the-variants as A
 use Rattle.metadata.specs.declared.Answered.{Answered}
-use Rattle.metadata.specs.declared.Name.{Name}
-use Rattle.metadata.specs.declared.NodeDescriptor.{NodeDescriptor}
-use Rattle.metadata.specs.declared.TabletDescriptor.{TabletDescriptor}
-use Rattle.metadata.specs.declared.DesiredReplicaPlacement.{DesiredReplicaPlacement}
-use Rattle.metadata.specs.declared.RetiredReplicaLifetime.{RetiredReplicaLifetime}
-use Rattle.metadata.specs.declared.TableRow.{TableRow}
 use Rattle.metadata.specs.declared.Store.{Store}
-use Rattle.opening.specs.Opened.{refusedOpening, openingOf}
-use Rattle.tape.specs.declared.Next.{Next}
-use Rattle.tape.specs.declared.Next.the-variants as N
+use Rattle.reading.specs.declared.Next.{Next}
+use Rattle.reading.specs.declared.Next.the-variants as N
 use Rattle.tape.specs.declared.Ran.{Ran}
-use Rattle.tape.specs.Tape.{stopped, nextAt, readFrom, lines, tapeAnswers, written, Done, tablesOf, groupOf, openTape, cutOpening, bodyAt, outcome, finalStore, numbersOf, numbers, ran, ranOut}
-use Rattle.answers.specs.Turns.{DirectoryChange, Operands, isCommand, sizeOf, commandAt}
+use Rattle.tape.specs.Tape.{written, Done, outcome, finalStore, numbersOf, numbers, ran, ranOut}
+use Rattle.reading.specs.Reader.{stopped, nextAt, readFrom, lines, tapeAnswers, openTape, bodyAt, isCommand, sizeOf, commandAt}
+use Rattle.answers.specs.Turns.{DirectoryChange}
 use Rattle.answers.proofs.Changing.{Turned, turned}
-use Rattle.tape.proofs.History.{accepted}
-use Rattle.metadata.proofs.Theorem.{history}
-use Rattle.tape.proofs.Reading.{whole, next-end, read-unknown, read-cut}
+use Rattle.reading.proofs.Opened.{applied}
+use Rattle.reading.proofs.Reading.{whole, next-end, operands-of, read-unknown, read-cut}
 use Rattle.tape.proofs.Running.{Runs, lines-length, runs-start, runs-next, next-room, runs-stop, stop-room, runs-end}
-
--- x is what stands at the place
-pub known-of : (l : List ℕ) (at b m : ℕ) (x : Next) → x ≡ nextAt l at → x ≡ N.Whole b m → isCommand b ≡ true
-known-of l at b m x q e = whole l at b m (sym q ∙ e) .known
-
-pub operands-of : (l : List ℕ) (at b m n : ℕ) (x : Next) → x ≡ nextAt l at → x ≡ N.Whole b m → b ≡ n → Operands n b l (at + 1)
-operands-of l at b m n x q e z = let w = whole l at b m (sym q ∙ e) in record { is = z; fits = omega (arith, w .next, w .fits) }
 
 -- ---- the loop: the answers so far end at the place
 
@@ -134,37 +114,6 @@ same-now l s₀ at₀ out₀ s at place out k = k .long
 pub ruleset running =
     (loop-start, loop-known, loop-fits, loop-less, loop-sound, loop-change, loop-room, loop-next, operands-of, unknown-room, cut-room, unknown-done, cut-done, end-done, over-done, same-after, same-now, turned, needs)
 
--- ---- the opening
-
-pub empty-body : (l : List ℕ) → length l ≡ 0 → 9 ≡ bodyAt l
-empty-body [] e = refl
-empty-body (x ∷ l) e = absurd (omega arith)
-
-pub some-body : (l : List ℕ) (n : ℕ) → n ≡ byteAt l 0 → 9 + 12 * n ≡ bodyAt l
-some-body l n e = rw e
-
-pub opening-cut : (l : List ℕ) (r : Answered) → length l < 9 → r ≡ cutOpening → r ≡ openTape l
-unfolding openTape
-opening-cut l r h e = rw (lt-ltb (length l) 9 h) e
-
-pub opening-over : (l : List ℕ) (n : ℕ) (r : Answered) → 9 ≤ length l → n ≡ byteAt l 0 → tableRoom < n → r ≡ refusedOpening → r ≡ openTape l
-unfolding openTape
-opening-over l n r h q g e = rw (le-ltb (length l) 9 h, ← q, lt-ltb tableRoom n g) e
-
-pub opening-short : (l : List ℕ) (n : ℕ) (r : Answered) → 9 ≤ length l → n ≡ byteAt l 0 → n ≤ tableRoom → length l < 9 + 12 * n → r ≡ cutOpening → r ≡ openTape l
-unfolding openTape
-opening-short l n r h q g f e = rw (le-ltb (length l) 9 h, ← q, le-ltb tableRoom n g, lt-ltb (length l) (9 + 12 * n) f) e
-
-pub opening-read : (l : List ℕ) (n g : ℕ) (rows : List TableRow) (r : Answered) → 9 ≤ length l → n ≡ byteAt l 0 → n ≤ tableRoom → 9 + 12 * n ≤ length l →
-    take n rows ≡ listAt tableAt 12 n l 9 → g ≡ numberAt 8 l 1 → r ≡ openingOf n rows g → r ≡ openTape l
-unfolding openTape
-opening-read l n g rows r h q k f t w e =
-    e ∙ rw (le-leb n tableRoom k, t, w, q)
-    (sym (rw (le-ltb (length l) 9 h, ← q, le-ltb tableRoom n k, le-ltb (length l) (9 + 12 * n) f)))
-
-pub cut-is : (r : Answered) (s : Store) → r ≡ refusedOpening → s ≡ r .store → _≡_ {A = Answered} (record { answer = A.BadTape 2 0; store = s }) cutOpening
-cut-is r s e q = λ i. record { answer = A.BadTape 2 0; store = (q ∙ ap (λ (x : Answered). x .store) e) i }
-
 -- ---- the whole run; o is what the opening gave, b whether it was accepted, n the number of lines
 
 quarter-over : (len n : ℕ) → len / 4 < n → len < 4 * n
@@ -174,16 +123,8 @@ quarter-fits : (len n : ℕ) → n ≤ len / 4 → 4 * n ≤ len
 quarter-fits len n h = omega (arith, div-add-mod' len 4)
 
 module _ (l : List ℕ) (o : Answered) (b : Bool) (q : o ≡ openTape l) (p : b ≡ isApplied (o .answer)) where
-  applied : b ≡ true → isApplied (openTape l .answer) ≡ true
-  applied e = sym (ap (λ (x : Answered). isApplied (x .answer)) q) ∙ sym p ∙ e
-
   refused : b ≡ false → isApplied (openTape l .answer) ≡ false
   refused e = sym (ap (λ (x : Answered). isApplied (x .answer)) q) ∙ sym p ∙ e
-
-  -- the opening's store is sound
-  pub opened-is-sound : b ≡ true → sound (o .store) ≡ true
-  opened-is-sound e = subst (λ (x : Answered). sound (x .store) ≡ true) (accepted l (applied e) ∙ sym q)
-      (history (tablesOf l) (groupOf l) [] (subst (λ (x : Answered). isApplied (x .answer) ≡ true) (sym (accepted l (applied e))) (applied e)) .sound)
 
   module _ (at n : ℕ) (out : List ℕ) (a : at ≡ bodyAt l) (m : n ≡ lines (readFrom l at)) where
     pub answers-fit : n ≤ length out / 4 → 4 * lines (readFrom l at) ≤ length out
@@ -191,13 +132,13 @@ module _ (l : List ℕ) (o : Answered) (b : Bool) (q : o ≡ openTape l) (p : b 
 
     line-count : b ≡ true → length (outcome l) ≡ n
     unfolding outcome
-    line-count e = rw (applied e) (lines-length (openTape l .store) (readFrom l (bodyAt l)) ∙ sym (m ∙ ap (λ (k : ℕ). lines (readFrom l k)) a))
+    line-count e = rw (applied l o b q p e) (lines-length (openTape l .store) (readFrom l (bodyAt l)) ∙ sym (m ∙ ap (λ (k : ℕ). lines (readFrom l k)) a))
 
     pub short-run : b ≡ true → length out / 4 < n → _≡_ {A = Ran} (record { opened = true; short = true; lines = n; store = o .store }) (ran l (length out))
     unfolding ran
     short-run e h =
         let f : length out < 4 * length (outcome l) = omega (arith, line-count e, quarter-over (length out) n h) in
-        rw (lt-leb (4 * length (outcome l)) (length out) f, applied e, line-count e, q)
+        rw (lt-leb (4 * length (outcome l)) (length out) f, applied l o b q p e, line-count e, q)
 
     pub short-out : b ≡ true → length out / 4 < n → out ≡ ranOut l out
     unfolding ranOut
@@ -212,7 +153,7 @@ module _ (l : List ℕ) (o : Answered) (b : Bool) (q : o ≡ openTape l) (p : b 
           let f : 4 * length (outcome l) ≤ length out = omega (arith, line-count e, quarter-fits (length out) n h) in
           let w : s ≡ run (openTape l .store) (readFrom l (bodyAt l) .commands) =
           d .store ∙ ap₂ (λ (x : Answered) (k : ℕ). run (x .store) (readFrom l k .commands)) q a in
-          rw (le-leb (4 * length (outcome l)) (length out) f, applied e, line-count e) (ap (λ (x : Store). record { opened = true; short = false; lines = n; store = x }) w)
+          rw (le-leb (4 * length (outcome l)) (length out) f, applied l o b q p e, line-count e) (ap (λ (x : Store). record { opened = true; short = false; lines = n; store = x }) w)
 
       pub whole-out : b ≡ true → n ≤ length out / 4 → new ≡ ranOut l out
       unfolding ranOut outcome
@@ -221,7 +162,7 @@ module _ (l : List ℕ) (o : Answered) (b : Bool) (q : o ≡ openTape l) (p : b 
           let w : new ≡ numbers (tapeAnswers (openTape l .store) (readFrom l (bodyAt l))) ++ drop (4 * length (tapeAnswers (openTape l .store) (readFrom l (bodyAt l)))) out =
           d .answered
           ∙ ap₂ (λ (x : Answered) (k : ℕ). numbers (tapeAnswers (x .store) (readFrom l k)) ++ drop (4 * length (tapeAnswers (x .store) (readFrom l k))) out) q a in
-          rw (le-leb (4 * length (outcome l)) (length out) f) (w ∙ sym (rw (applied e)))
+          rw (le-leb (4 * length (outcome l)) (length out) f) (w ∙ sym (rw (applied l o b q p e)))
 
   module _ (out : List ℕ) where
     one-line : b ≡ false → outcome l ≡ o .answer ∷ []

@@ -1,11 +1,11 @@
 -- A tape run command by command, its answers written as numbers. Assumes nothing.
-use Prim.Native.Nat.{ℕ, zero, suc, _+_, _*_, _-_, _≤_, _<_}
+use Prim.Native.Nat.{ℕ, suc, _+_, _*_, _-_, _≤_, _<_}
 use native.Mathlib.Omega.{arith}
 use native.Mathlib.Numerals.{add-one}
-use mathlib.Core.Path.{_≡_, refl, sym, ap, ap₂, _∙_, subst}
-use mathlib.Core.Bool.{Bool, true, false, cond}
+use mathlib.Core.Path.{_≡_, refl, sym, ap, ap₂, _∙_}
+use mathlib.Core.Bool.{true}
 use mathlib.Core.List.{List, [], _∷_, _++_, append-assoc, append-nil}
-use lib.ListN.{length, take, drop, length-append, length-take, length-drop, getD, set}
+use lib.ListN.{length, take, drop, length-append, length-drop, getD, set}
 use lib.Seq.{take-at, drop-at, drop-drop, drop-cons, take-suc, take-all, length-take-le, sets-eq}
 use Rattle.metadata.specs.Answers.{reported}
 use Rattle.metadata.specs.Commands.{Command}
@@ -17,10 +17,10 @@ use Rattle.metadata.specs.declared.Answer.the-variants as A
 use Rattle.metadata.specs.declared.Answered.{Answered}
 use Rattle.metadata.specs.declared.Reported.{Reported}
 use Rattle.metadata.specs.declared.Store.{Store}
-use Rattle.tape.specs.declared.Next.the-variants as N
-use Rattle.tape.specs.Tape.{Reading, ended, stopped, then, nextAt, readFrom, tapeAnswers, numbersOf, numbers, written, Done}
-use Rattle.answers.specs.Turns.{commandAt}
-use Rattle.tape.proofs.Reading.{read-end, read-whole}
+use Rattle.reading.specs.declared.Next.the-variants as N
+use Rattle.tape.specs.Tape.{numbersOf, numbers, written, Done}
+use Rattle.reading.specs.Reader.{Reading, ended, stopped, nextAt, readFrom, tapeAnswers, commandAt}
+use Rattle.reading.proofs.Reading.{read-end, read-whole}
 
 -- ---- numbers
 

@@ -1,11 +1,11 @@
-// The command tape: decoding, one step, the run over a whole tape.
+// The command tape: the run over a whole tape.
 ghost use mathlib.Core.Path.{_≡_};
 ghost use mathlib.Core.Bool.{true};
 ghost use Prim.Native.Nat.{_+_, _*_, _≤_, _<_};
 ghost use lib.ListN.{length, set};
 ghost use Rattle.metadata.specs.Answers.{reported};
-ghost use Rattle.tape.specs.Tape.{nextAt, readFrom, lines, written, Done, openTape, cutOpening, bodyAt, ran, ranOut, TapeClaims};
-ghost use Rattle.answers.specs.Turns.{isCommand, sizeOf};
+ghost use Rattle.tape.specs.Tape.{written, Done, ran, ranOut, TapeClaims};
+ghost use Rattle.reading.specs.Reader.{readFrom, lines};
 ghost use Rattle.metadata.specs.Sound.{sound};
 use answers::command_answer;
 use answers::directory_after;
@@ -15,19 +15,14 @@ use answers::placements_after;
 use answers::retirements_after;
 use answers::tablets_after;
 use metadata::Answer;
-use metadata::Answered;
 use metadata::Store;
-use metadata::TABLE_ROOM;
 use metadata::is_applied;
 use metadata::report;
-
-// What stands at a place of a tape: nothing more, an unknown byte, a command that is cut short, or a whole command with its byte and the place of the next.
-pub enum Next {
-    End,
-    Unknown(u8),
-    Cut(u8),
-    Whole(u8, usize),
-}
+use reading::Next;
+use reading::body_at;
+use reading::count_lines;
+use reading::next_at;
+use reading::open_tape;
 
 // A run of a whole tape: whether the opening was accepted, whether the list was too short for the answers, how many there are, and the store.
 pub struct Ran {
@@ -35,80 +30,6 @@ pub struct Ran {
     pub short: bool,
     pub lines: usize,
     pub store: Store,
-}
-
-pub fn is_command(b: u8) -> bool
-    ensures { λ r. ⌜ r ≡ isCommand b ⌝ }
-{
-    (1 <= b) & (b <= 7)
-}
-
-// How many operand bytes a command has.
-pub fn size_of(b: u8) -> usize
-    ensures { λ r. ⌜ r ≡ sizeOf b ⌝ }
-{
-    if b == 1 {
-        return 49;
-    }
-    if b == 2 {
-        return 305;
-    }
-    if b == 3 {
-        return 9;
-    }
-    if b == 4 {
-        return 107;
-    }
-    if b == 5 {
-        return 234;
-    }
-    if b == 6 {
-        return 48;
-    }
-    0
-}
-
-pub fn next_at(tape: &[u8], at: usize) -> Next
-    ensures { λ r. ⌜ r ≡ nextAt (now (tape .entry)) at ⌝ }
-{
-    if tape.len() <= at {
-        return Next::End;
-    }
-    let b = tape[at];
-    if is_command(b) {
-        let size = size_of(b);
-        if tape.len() - (at + 1) < size {
-            return Next::Cut(b);
-        }
-        return Next::Whole(b, (at + 1) + size);
-    }
-    Next::Unknown(b)
-}
-
-// How many lines the commands from a place on print.
-pub fn count_lines(tape: &[u8], at: usize) -> usize
-    ensures { λ r. ⌜ r ≡ lines (readFrom (now (tape .entry)) at) ⌝ }
-{
-    let mut n = 0;
-    let mut i = at;
-    while i < tape.len() {
-        match next_at(tape, i) {
-            Next::Whole(_, m) => {
-                i = m;
-                n += 1;
-            }
-            Next::Unknown(_) => {
-                return n + 1;
-            }
-            Next::Cut(_) => {
-                return n + 1;
-            }
-            Next::End => {
-                return n;
-            }
-        }
-    }
-    n
 }
 
 fn wide(b: u8) -> u64
@@ -195,50 +116,6 @@ pub fn run_commands(s: Store, tape: &[u8], at: usize, out: &mut [u64]) -> Store
         }
     }
     Store { directory, catalog }
-}
-
-fn count_of(b: u8) -> usize
-    ensures { λ r. ⌜ (r ≡ b) × (r < 256) ⌝ }
-{
-    b as usize
-}
-
-fn cut_opening() -> Answered
-    ensures { λ r. ⌜ r ≡ cutOpening ⌝ }
-{
-    let store = opening::refused_opening().store;
-    Answered {
-        answer: Answer::BadTape(2, 0),
-        store,
-    }
-}
-
-// The opening at the start of a tape.
-pub fn open_tape(tape: &[u8]) -> Answered
-    ensures { λ r. ⌜ r ≡ openTape (now (tape .entry)) ⌝ }
-{
-    if tape.len() < 9 {
-        return cut_opening();
-    }
-    let count = count_of(tape[0]);
-    if TABLE_ROOM < count {
-        return opening::refused_opening();
-    }
-    if tape.len() < 9 + 12 * count {
-        return cut_opening();
-    }
-    let rows = decode::tables_at(tape, 9, count);
-    opening::open(count, rows, decode::number8(tape, 1))
-}
-
-// Where the commands begin.
-pub fn body_at(tape: &[u8]) -> usize
-    ensures { λ r. ⌜ r ≡ bodyAt (now (tape .entry)) ⌝ }
-{
-    if tape.len() == 0 {
-        return 9;
-    }
-    9 + 12 * count_of(tape[0])
 }
 
 // A whole tape in memory: four numbers for each answer go to the lent list. Too short a list: nothing is run, and nothing is written.

@@ -5,7 +5,7 @@ use Rattle.placement_tape.proofs.finish.Tie as tie
 use Rattle.placement_tape.proofs.finish.Reads as reads
 use Rattle.placement_tape.proofs.finish.Lts as lts
 use Rattle.placement_tape.proofs.print_line.Reads as print-line-reads
-use Rattle.tape.proofs.next_at.Reads as next-at-reads
+use Rattle.reading.proofs.next_at.Reads as next-at-reads
 
 -- src/main.rt:100:25
 array-share-prefix-buf : tie.Need-array-share-prefix-buf

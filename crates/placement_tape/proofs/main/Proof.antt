@@ -1,5 +1,5 @@
 use borrow.Author.Needs.{needs}
-use Rattle.tape.proofs.Loop.{opened-is-sound}
+use Rattle.reading.proofs.Opened.{opened-is-sound}
 use Rattle.placement_tape.proofs.main.Statement.{statement}
 use Rattle.placement_tape.proofs.main.Tie as tie
 use Rattle.placement_tape.proofs.main.Reads as reads
@@ -12,7 +12,7 @@ use Rattle.placement_tape.proofs.dump_store.Reads as dump-store-reads
 use Rattle.placement_tape.proofs.mode.Reads as mode-reads
 use Rattle.placement_tape.proofs.print_line.Reads as print-line-reads
 use Rattle.placement_tape.proofs.run_tape.Reads as run-tape-reads
-use Rattle.tape.proofs.open_tape.Reads as open-tape-reads
+use Rattle.reading.proofs.open_tape.Reads as open-tape-reads
 
 -- src/main.rt:205:9
 mode-requires : tie.Need-mode-requires

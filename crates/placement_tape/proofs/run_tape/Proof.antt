@@ -4,7 +4,7 @@ use Rattle.placement_tape.proofs.run_tape.Tie as tie
 use Rattle.placement_tape.proofs.run_tape.Reads as reads
 use Rattle.placement_tape.proofs.run_tape.Lts as lts
 use Rattle.placement_tape.proofs.feed_all.Reads as feed-all-reads
-use Rattle.tape.proofs.body_at.Reads as body-at-reads
+use Rattle.reading.proofs.body_at.Reads as body-at-reads
 
 -- src/main.rt:180:28
 array-share-prefix-buf : tie.Need-array-share-prefix-buf

@@ -5,7 +5,7 @@ use Rattle.store.proofs.apply_cluster_initialized.Tie as tie
 use Rattle.store.proofs.apply_cluster_initialized.Reads as reads
 use Rattle.store.proofs.apply_cluster_initialized.Lts as lts
 use Rattle.soundness.proofs.sound.Reads as sound-reads
-use Rattle.store.proofs.cluster_initialized_step.Reads as cluster-initialized-step-reads
+use Rattle.steps.proofs.cluster_initialized_step.Reads as cluster-initialized-step-reads
 use Rattle.store.proofs.refused.Reads as refused-reads
 
 -- src/lib.rt:318:8

@@ -6,7 +6,7 @@ use Rattle.store.proofs.apply_create_tablet.Tie as tie
 use Rattle.store.proofs.apply_create_tablet.Reads as reads
 use Rattle.store.proofs.apply_create_tablet.Lts as lts
 use Rattle.soundness.proofs.sound.Reads as sound-reads
-use Rattle.store.proofs.create_tablet_step.Reads as create-tablet-step-reads
+use Rattle.steps.proofs.create_tablet_step.Reads as create-tablet-step-reads
 use Rattle.store.proofs.refused.Reads as refused-reads
 
 -- src/lib.rt:167:8

@@ -5,7 +5,7 @@ use Rattle.store.proofs.apply_desired_placement.Tie as tie
 use Rattle.store.proofs.apply_desired_placement.Reads as reads
 use Rattle.store.proofs.apply_desired_placement.Lts as lts
 use Rattle.soundness.proofs.sound.Reads as sound-reads
-use Rattle.store.proofs.desired_placement_step.Reads as desired-placement-step-reads
+use Rattle.steps.proofs.desired_placement_step.Reads as desired-placement-step-reads
 use Rattle.store.proofs.refused.Reads as refused-reads
 
 -- src/lib.rt:345:8

@@ -6,7 +6,7 @@ use Rattle.store.proofs.apply_register_node.Reads as reads
 use Rattle.store.proofs.apply_register_node.Lts as lts
 use Rattle.soundness.proofs.sound.Reads as sound-reads
 use Rattle.store.proofs.refused.Reads as refused-reads
-use Rattle.store.proofs.register_node_step.Reads as register-node-step-reads
+use Rattle.steps.proofs.register_node_step.Reads as register-node-step-reads
 
 -- src/lib.rt:327:8
 sound-requires : tie.Need-sound-requires

@@ -7,7 +7,7 @@ use Rattle.store.proofs.apply_replica_retirement.Reads as reads
 use Rattle.store.proofs.apply_replica_retirement.Lts as lts
 use Rattle.soundness.proofs.sound.Reads as sound-reads
 use Rattle.store.proofs.refused.Reads as refused-reads
-use Rattle.store.proofs.replica_retirement_step.Reads as replica-retirement-step-reads
+use Rattle.steps.proofs.replica_retirement_step.Reads as replica-retirement-step-reads
 
 -- src/lib.rt:176:8
 sound-requires : tie.Need-sound-requires

@@ -6,7 +6,7 @@ use Rattle.store.proofs.apply_set_node_lifecycle.Reads as reads
 use Rattle.store.proofs.apply_set_node_lifecycle.Lts as lts
 use Rattle.soundness.proofs.sound.Reads as sound-reads
 use Rattle.store.proofs.refused.Reads as refused-reads
-use Rattle.store.proofs.set_node_lifecycle_step.Reads as set-node-lifecycle-step-reads
+use Rattle.steps.proofs.set_node_lifecycle_step.Reads as set-node-lifecycle-step-reads
 
 -- src/lib.rt:336:8
 sound-requires : tie.Need-sound-requires

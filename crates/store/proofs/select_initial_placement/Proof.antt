@@ -6,7 +6,7 @@ use Rattle.store.proofs.select_initial_placement.Tie as tie
 use Rattle.store.proofs.select_initial_placement.Reads as reads
 use Rattle.store.proofs.select_initial_placement.Lts as lts
 use Rattle.soundness.proofs.sound.Reads as sound-reads
-use Rattle.store.proofs.initial_placement_step.Reads as initial-placement-step-reads
+use Rattle.steps.proofs.initial_placement_step.Reads as initial-placement-step-reads
 use Rattle.store.proofs.refused.Reads as refused-reads
 
 -- src/lib.rt:185:8

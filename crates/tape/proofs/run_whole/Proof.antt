@@ -1,13 +1,14 @@
-use Rattle.tape.proofs.Loop.{opened-is-sound, answers-fit, short-run, short-out, whole-run, whole-out, short-refusal, short-refusal-out, refusal-run, refusal-out}
+use Rattle.reading.proofs.Opened.{opened-is-sound}
+use Rattle.tape.proofs.Loop.{answers-fit, short-run, short-out, whole-run, whole-out, short-refusal, short-refusal-out, refusal-run, refusal-out}
 use borrow.Author.Needs.{needs}
 use Rattle.tape.proofs.run_whole.Statement.{statement}
 use Rattle.tape.proofs.run_whole.Tie as tie
 use Rattle.tape.proofs.run_whole.Reads as reads
 use Rattle.tape.proofs.run_whole.Lts as lts
 use Rattle.metadata.proofs.is_applied.Reads as is-applied-reads
-use Rattle.tape.proofs.body_at.Reads as body-at-reads
-use Rattle.tape.proofs.count_lines.Reads as count-lines-reads
-use Rattle.tape.proofs.open_tape.Reads as open-tape-reads
+use Rattle.reading.proofs.body_at.Reads as body-at-reads
+use Rattle.reading.proofs.count_lines.Reads as count-lines-reads
+use Rattle.reading.proofs.open_tape.Reads as open-tape-reads
 use Rattle.tape.proofs.run_commands.Reads as run-commands-reads
 use Rattle.tape.proofs.write_answer.Reads as write-answer-reads
 
