@@ -1,12 +1,12 @@
 use borrow.Author.Tests.{eq-eqb, ne-eqb, lt-ltb, le-ltb}
 use borrow.Author.Needs.{needs}
-use Rattle.metadata.proofs.report.Statement.{statement}
-use Rattle.metadata.proofs.report.Tie as tie
-use Rattle.metadata.proofs.report.Reads as reads
-use Rattle.metadata.proofs.report.Lts as lts
-use Rattle.metadata.proofs.wide.Reads as wide-reads
-use Rattle.metadata.proofs.wide32.Reads as wide32-reads
-use Rattle.metadata.proofs.with_operands.Reads as with-operands-reads
+use Rattle.reports.proofs.report.Statement.{statement}
+use Rattle.reports.proofs.report.Tie as tie
+use Rattle.reports.proofs.report.Reads as reads
+use Rattle.reports.proofs.report.Lts as lts
+use Rattle.reports.proofs.wide.Reads as wide-reads
+use Rattle.reports.proofs.wide32.Reads as wide32-reads
+use Rattle.reports.proofs.with_operands.Reads as with-operands-reads
 
 -- src/lib.rt:304:28
 enum-told : tie.Need-enum-told

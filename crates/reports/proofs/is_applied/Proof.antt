@@ -1,12 +1,12 @@
 use borrow.Author.Needs.{needs}
 use mathlib.Core.Path.{ap}
 use lib.Dec.{eqb}
 use Rattle.metadata.specs.declared.Reported.{Reported}
-use Rattle.metadata.proofs.is_applied.Statement.{statement}
-use Rattle.metadata.proofs.is_applied.Tie as tie
-use Rattle.metadata.proofs.is_applied.Reads as reads
-use Rattle.metadata.proofs.is_applied.Lts as lts
-use Rattle.metadata.proofs.report.Reads as report-reads
+use Rattle.reports.proofs.is_applied.Statement.{statement}
+use Rattle.reports.proofs.is_applied.Tie as tie
+use Rattle.reports.proofs.is_applied.Reads as reads
+use Rattle.reports.proofs.is_applied.Lts as lts
+use Rattle.reports.proofs.report.Reads as report-reads
 
 -- src/lib.rt:344:5
 report-requires : tie.Need-report-requires
