@@ -83,7 +83,7 @@ pub fn distinct_labels(all: [OptionalLabel; REPLICA_ROOM], count: usize) -> u32
 }
 
 // How many nodes are chosen: a count above the room counts as the room.
-fn used(chosen: Chosen) -> usize
+pub fn used(chosen: Chosen) -> usize
     ensures { λ r. ⌜ (r ≡ length (chosenNodes chosen)) × (r ≤ initialReplicationFactor) ⌝ }
 {
     let count = chosen.count;
@@ -186,7 +186,7 @@ fn better(a: NodeDescriptor, b: NodeDescriptor, chosen: Chosen) -> bool
 }
 
 // The best of what was found and one more node.
-fn step_best(b: Best, n: NodeDescriptor, chosen: Chosen) -> Best
+pub fn step_best(b: Best, n: NodeDescriptor, chosen: Chosen) -> Best
     ensures { λ r. ⌜ bestFound r ≡ stepBest (chosenNodes chosen) (bestFound b) n ⌝ }
 {
     if !candidate(n, chosen) {
@@ -207,7 +207,8 @@ fn step_best(b: Best, n: NodeDescriptor, chosen: Chosen) -> Best
     b
 }
 
-fn nothing_found() -> Best
+// The best of no nodes.
+pub fn nothing_found() -> Best
     ensures { λ r. ⌜ r .found ≡ false ⌝ }
 {
     let node = zero_node();
@@ -232,7 +233,8 @@ fn best_of(nodes: Nodes, chosen: Chosen) -> Best
     b
 }
 
-fn none_chosen() -> Chosen
+// No node is chosen yet.
+pub fn none_chosen() -> Chosen
     ensures { λ r. ⌜ r .count ≡ 0 ⌝ }
 {
     let node = zero_node();
@@ -240,8 +242,8 @@ fn none_chosen() -> Chosen
     Chosen { count: 0, nodes }
 }
 
-// One node more, at the end.
-fn push(chosen: Chosen, n: NodeDescriptor) -> Chosen
+// Inner: `choose` shows that there is room. One node more, at the end.
+pub fn push(chosen: Chosen, n: NodeDescriptor) -> Chosen
     requires { ⌜ chosen .count < initialReplicationFactor ⌝ }
     ensures { λ r. ⌜ (r .count ≡ chosen .count + 1) × (chosenNodes r ≡ chosenNodes chosen ++ n ∷ []) ⌝ }
 {
@@ -273,7 +275,7 @@ fn choose(nodes: Nodes) -> Chosen
 }
 
 // The chosen node in this place, or no node.
-fn id_at(chosen: Chosen, i: usize) -> NodeId
+pub fn id_at(chosen: Chosen, i: usize) -> NodeId
     ensures { λ r. ⌜ r ≡ idAt (chosenNodes chosen) i ⌝ }
 {
     let nodes = chosen.nodes;

@@ -24,13 +24,13 @@ use metadata::REPLICA_ROOM;
 use metadata::RaftGroupId;
 use metadata::TABLET_ROOM;
 use metadata::Tablets;
-use metadata::is_applied;
 use node_rows::find_node;
 use node_rows::lookup_node;
 use node_rows::node_at;
 use node_rows::with_node;
 use placement_rows::placement_ids;
 use records::with_lifecycle;
+use reports::is_applied;
 use rows::LookedUp;
 use rows::NodeFound;
 use rows::find_id;
@@ -86,7 +86,7 @@ fn expected_on(k: NodeId, group: RaftGroupId, r: DesiredReplica) -> Answer
 }
 
 // The first copy of the placement that stands on the node.
-fn expected_in(k: NodeId, group: RaftGroupId, p: DesiredReplicaPlacement) -> Answer
+pub fn expected_in(k: NodeId, group: RaftGroupId, p: DesiredReplicaPlacement) -> Answer
     ensures { λ r. ⌜ r ≡ each (expectedOn k group) (desired p) ⌝ }
 {
     let replicas = p.replicas;

@@ -26,13 +26,13 @@ use metadata::Retirements;
 use metadata::TABLET_ROOM;
 use metadata::TabletId;
 use metadata::Tablets;
-use metadata::is_applied;
 use placement_admission::placement_reason;
 use placement_rows::find_placement;
 use placement_rows::insert_placement;
 use placement_rows::lookup_placement;
 use placement_rows::with_placement;
 use records::same_placement;
+use reports::is_applied;
 use retirements::retired_numbers;
 use rows::LookedUp;
 use rows::PlacementFound;
@@ -182,14 +182,15 @@ pub fn put_placement(t: Placements, p: DesiredReplicaPlacement) -> Placements
 
 // ---- the command's checks
 
-fn is_stored(old: PlacementFound, p: DesiredReplicaPlacement) -> bool
+// The lookup gave this very placement.
+pub fn is_stored(old: PlacementFound, p: DesiredReplicaPlacement) -> bool
     ensures { λ b. ⌜ b ≡ isStored old p ⌝ }
 {
     old.there & same_placement(old.row, p)
 }
 
 // 30 to 34 and 39: what may change against the stored placement, one of count.
-fn judge_change(old: PlacementFound, count: usize, p: DesiredReplicaPlacement) -> Answer
+pub fn judge_change(old: PlacementFound, count: usize, p: DesiredReplicaPlacement) -> Answer
     ensures { λ a. ⌜ a ≡ judgeChange old count p ⌝ }
 {
     let epoch = judge_epoch(old, p);

@@ -1,10 +1,9 @@
 -- The ways out of the checks of registering: what the place knows, and the answer there. Assumes nothing.
 use Prim.Native.Nat.{ℕ, _≤_, _<_}
-use native.Mathlib.Omega.{arith}
 use mathlib.Core.Path.{_≡_, refl, sym, ap, _∙_}
 use mathlib.Core.Bool.{Bool, true, false, not, cond, _&&_}
 use mathlib.Core.List.{List}
-use lib.ListN.{length, length-take}
+use lib.ListN.{length}
 use borrow.Author.Tests.{eq-eqb, ne-eqb, le-leb, lt-leb}
 use Rattle.laws.specs.Keyed.{has, row}
 use Rattle.laws.proofs.KeyedLaws.{row-either}
@@ -23,35 +22,36 @@ use Rattle.metadata.specs.declared.NodeDescriptor.{NodeDescriptor}
 use Rattle.metadata.specs.declared.TabletDescriptor.{TabletDescriptor}
 use Rattle.metadata.specs.declared.DesiredReplicaPlacement.{DesiredReplicaPlacement}
 use Rattle.rows.specs.declared.NodeFound.{NodeFound}
+use Rattle.rows.proofs.Lookup.{full-test}
 use Rattle.lifecycle.specs.Steps.{leaves, judgeMove}
 use Rattle.lifecycle.proofs.Advance as Advance
-use Rattle.registering.specs.Steps.{judgeKnownRow}
+use Rattle.registering.specs.Steps.{judgeFreeNode, judgeKnownRow}
 
 -- ---- a new node, where c is what the search for a clash found
-module _ (nodes : Nodes) (n : NodeDescriptor) (c : Clash) (e : c ≡ clash n (viewNodes nodes)) where
-  pub clashes : (node : NodeId) (field old : ℕ) → c ≡ C.At node field old → A.NodeEndpointConflict node (n .«node_id») field ≡ judgeNewNode (viewNodes nodes) n
-  unfolding judgeNewNode _⊳_ refuse
-  clashes node field old h = rw (← e, h)
+module _ (c : Clash) (count : ℕ) (n : NodeDescriptor) where
+  pub clashes : (node : NodeId) (field old : ℕ) → c ≡ C.At node field old → A.NodeEndpointConflict node (n .«node_id») field ≡ judgeFreeNode c count n
+  unfolding judgeFreeNode _⊳_ refuse
+  clashes node field old h = rw h
 
   module _ (h : c ≡ C.Nothing) where
-    pub not-active : (n .lifecycle ≡ 0 → ⊥) → A.InvalidNodeLifecycleTransition (n .«node_id») 5 (n .lifecycle) ≡ judgeNewNode (viewNodes nodes) n
-    unfolding judgeNewNode _⊳_ refuse
-    not-active a = rw (← e, h, ne-eqb (n .lifecycle) 0 a)
+    pub not-active : (n .lifecycle ≡ 0 → ⊥) → A.InvalidNodeLifecycleTransition (n .«node_id») 5 (n .lifecycle) ≡ judgeFreeNode c count n
+    unfolding judgeFreeNode _⊳_ refuse
+    not-active a = rw (h, ne-eqb (n .lifecycle) 0 a)
 
-    module _ (a : n .lifecycle ≡ 0) (long : length (nodes .rows) ≡ nodeRoom) where
-      many : nodeRoom ≤ nodes .count → nodeRoom ≤ length (viewNodes nodes)
-      many r = simp length-take (omega arith)
+    module _ (a : n .lifecycle ≡ 0) where
+      pub no-room : nodeRoom ≤ count → A.TableFull 0 nodeRoom ≡ judgeFreeNode c count n
+      unfolding judgeFreeNode _⊳_ refuse
+      no-room r = rw (h, eq-eqb (n .lifecycle) 0 a, le-leb nodeRoom count r)
 
-      few : nodes .count < nodeRoom → length (viewNodes nodes) < nodeRoom
-      few r = simp length-take (omega arith)
+      pub new-entry : count < nodeRoom → A.Applied ≡ judgeFreeNode c count n
+      unfolding judgeFreeNode _⊳_ refuse
+      new-entry r = rw (h, eq-eqb (n .lifecycle) 0 a, lt-leb nodeRoom count r)
 
-      pub no-room : nodeRoom ≤ nodes .count → A.TableFull 0 nodeRoom ≡ judgeNewNode (viewNodes nodes) n
-      unfolding judgeNewNode _⊳_ refuse
-      no-room r = rw (← e, h, eq-eqb (n .lifecycle) 0 a, le-leb nodeRoom (length (viewNodes nodes)) (many r))
-
-      pub new-entry : nodes .count < nodeRoom → A.Applied ≡ judgeNewNode (viewNodes nodes) n
-      unfolding judgeNewNode _⊳_ refuse
-      new-entry r = rw (← e, h, eq-eqb (n .lifecycle) 0 a, lt-leb nodeRoom (length (viewNodes nodes)) (few r))
+-- among the nodes: a full table is told by its count
+pub new-among : (nodes : Nodes) (n : NodeDescriptor) (c : Clash) → c ≡ clash n (viewNodes nodes) → length (nodes .rows) ≡ nodeRoom →
+    (a : Answer) → a ≡ judgeFreeNode c (nodes .count) n → a ≡ judgeNewNode (viewNodes nodes) n
+unfolding judgeFreeNode judgeNewNode
+new-among nodes n c e long a x = x ∙ rw (e, full-test nodeRoom (nodes .count) (nodes .rows) long)
 
 -- ---- against its row, where s and t are what the two comparisons gave
 module _ (old : NodeFound) (n : NodeDescriptor) (s : Bool) (e : s ≡ sameNode (old .row) n) where

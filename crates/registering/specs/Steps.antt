@@ -1,12 +1,14 @@
 -- Steps of the definitions of metadata that have a function of their own here. Assumes nothing.
 use Prim.Native.Nat.{ℕ}
 use mathlib.Core.Bool.{Bool, true, false, not}
+use lib.Dec.{leb, eqb}
 use Rattle.laws.specs.Rows.{findIndex, onFound}
+use Rattle.metadata.specs.Rooms.{nodeRoom}
 use Rattle.metadata.specs.Answers.{_⊳_, refuse}
 use Rattle.metadata.specs.Texts.{sameName}
 use Rattle.metadata.specs.Tables.{endpoints, sameNode, sameNodeDirectory}
 use Rattle.metadata.specs.Commands.{registering}
-use Rattle.metadata.specs.Nodes.{judgeRegistering}
+use Rattle.metadata.specs.Nodes.{clashAnswer, judgeRegistering}
 use Rattle.metadata.specs.Model.{viewNodes, viewTablets, viewPlacements, decided}
 use Rattle.metadata.specs.declared.Answer.{Answer}
 use Rattle.metadata.specs.declared.Answer.the-variants as A
@@ -28,6 +30,13 @@ clashAt old j t = onFound (findIndex (λ (e : Name). sameName e t) (endpoints ol
 abbrev pub isClash : Clash → Bool
 isClash (C.At node new old) = true
 isClash C.Nothing = false
+
+-- judgeNewNode, where the clash is at hand, and how many nodes there are
+unfoldable pub judgeFreeNode : Clash → ℕ → NodeDescriptor → Answer
+judgeFreeNode c count n =
+    clashAnswer (n .«node_id») c
+    ⊳ refuse (not (eqb (n .lifecycle) 0)) (A.InvalidNodeLifecycleTransition (n .«node_id») 5 (n .lifecycle))
+    ⊳ refuse (leb nodeRoom count) (A.TableFull 0 nodeRoom)
 
 -- judgeKnownNode up to the question whether a tablet expects the node, where its row is at hand
 unfoldable pub judgeKnownRow : NodeFound → NodeDescriptor → Answer

@@ -10,7 +10,7 @@ ghost use Rattle.metadata.specs.Tables.{nodeKey, endpoints, isZeroNode};
 ghost use Rattle.metadata.specs.Nodes.{clash, judgeNewNode, judgeRegistering, registeredNodes};
 ghost use Rattle.metadata.specs.Model.{viewNodes, viewTablets, viewPlacements, packNodes};
 ghost use Rattle.metadata.specs.Sound.{soundTable};
-ghost use Rattle.registering.specs.Steps.{clashAt, isClash, judgeKnownRow, registeringAnswer};
+ghost use Rattle.registering.specs.Steps.{clashAt, isClash, judgeFreeNode, judgeKnownRow, registeringAnswer};
 use admission::node_reason;
 use fields::same_name;
 use laws::Found;
@@ -28,16 +28,16 @@ use metadata::Nodes;
 use metadata::OptionalName;
 use metadata::Placements;
 use metadata::Tablets;
-use metadata::is_applied;
 use node_rows::find_node;
 use node_rows::insert_node;
 use node_rows::lookup_node;
 use records::same_node;
 use records::same_node_directory;
+use reports::is_applied;
 use rows::NodeFound;
 
 // A node's endpoints: raft, snapshot, sql, admin.
-const ENDPOINTS: u8 = 4;
+pub const ENDPOINTS: u8 = 4;
 
 const ACTIVE: u8 = 0;
 
@@ -47,7 +47,7 @@ const UNREGISTERED: u8 = 5;
 const NODE_TABLE: u8 = 0;
 
 // Endpoint j; above 3 the last, so that no caller has an index to prove.
-fn endpoint(n: NodeDescriptor, j: u8) -> Name
+pub fn endpoint(n: NodeDescriptor, j: u8) -> Name
     ensures { λ r. ⌜ r ≡ getD (endpoints n) j (n .«admin_addr») ⌝ }
 {
     if j == 0 {
@@ -63,7 +63,7 @@ fn endpoint(n: NodeDescriptor, j: u8) -> Name
 }
 
 // The existing node's first field that equals the new node's field j, which is t.
-fn clash_at(old: NodeDescriptor, j: u8, t: Name) -> Clash
+pub fn clash_at(old: NodeDescriptor, j: u8, t: Name) -> Clash
     ensures { λ r. ⌜ r ≡ clashAt old j t ⌝ }
 {
     let id = old.node_id;
@@ -82,7 +82,8 @@ fn clash_at(old: NodeDescriptor, j: u8, t: Name) -> Clash
     Clash::Nothing
 }
 
-fn is_clash(c: Clash) -> bool
+// There is a clash.
+pub fn is_clash(c: Clash) -> bool
     ensures { λ r. ⌜ r ≡ isClash c ⌝ }
 {
     match c {
@@ -117,26 +118,32 @@ pub fn clash(new: NodeDescriptor, nodes: Nodes) -> Clash
     found
 }
 
-// Its endpoints are free, it is Active, and there is room.
-pub fn judge_new_node(nodes: Nodes, n: NodeDescriptor) -> Answer
-    ensures { λ r. ⌜ r ≡ judgeNewNode (viewNodes nodes) n ⌝ }
+// A new node by the first clash of its endpoints: there is none, it is Active, and a row is left beside the count that are in use.
+pub fn judge_free_node(c: Clash, count: usize, n: NodeDescriptor) -> Answer
+    ensures { λ r. ⌜ r ≡ judgeFreeNode c count n ⌝ }
 {
     let id = n.node_id;
-    let c = clash(n, nodes);
     if let Clash::At(node, field, _) = c {
         return Answer::NodeEndpointConflict(node, id, field);
     }
     if n.lifecycle != ACTIVE {
         return Answer::InvalidNodeLifecycleTransition(id, UNREGISTERED, n.lifecycle);
     }
-    if NODE_ROOM <= nodes.count {
+    if NODE_ROOM <= count {
         return Answer::TableFull(NODE_TABLE, NODE_ROOM as u64);
     }
     Answer::Applied
 }
 
+// The same among the nodes, which are searched for the clash.
+pub fn judge_new_node(nodes: Nodes, n: NodeDescriptor) -> Answer
+    ensures { λ r. ⌜ r ≡ judgeNewNode (viewNodes nodes) n ⌝ }
+{
+    judge_free_node(clash(n, nodes), nodes.count, n)
+}
+
 // Against its row: the same record, another directory, or a move.
-fn judge_known_row(old: NodeFound, n: NodeDescriptor) -> Answer
+pub fn judge_known_row(old: NodeFound, n: NodeDescriptor) -> Answer
     ensures { λ r. ⌜ r ≡ judgeKnownRow old n ⌝ }
 {
     let row = old.row;

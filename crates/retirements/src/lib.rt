@@ -28,10 +28,10 @@ use metadata::RetiredReplicaLifetime;
 use metadata::Retirements;
 use metadata::TabletId;
 use metadata::Tablets;
-use metadata::is_applied;
 use placement_rows::lookup_placement;
 use records::same_retirement;
 use replicas::placement_holds;
+use reports::is_applied;
 use retirement_rows::insert_retirement;
 use retirement_rows::lookup_retirement;
 use rows::LookedUp;
@@ -81,7 +81,7 @@ pub fn is_replica_retired(ids: &[u64], n: usize, replica: ReplicaId) -> bool
 }
 
 // The replica number is desired.
-fn desires(replica: ReplicaId, p: DesiredReplicaPlacement) -> bool
+pub fn desires(replica: ReplicaId, p: DesiredReplicaPlacement) -> bool
     ensures { λ r. ⌜ r ≡ desires (replica .0) p ⌝ }
 {
     let replicas = p.replicas;
@@ -89,7 +89,7 @@ fn desires(replica: ReplicaId, p: DesiredReplicaPlacement) -> bool
 }
 
 // A retirement that is known: the same row again, or another proof for the same replica.
-fn judge_known_retirement(known: RetiredReplicaLifetime, x: RetiredReplicaLifetime) -> Answer
+pub fn judge_known_retirement(known: RetiredReplicaLifetime, x: RetiredReplicaLifetime) -> Answer
     ensures { λ r. ⌜ r ≡ judgeKnownRow known x ⌝ }
 {
     let group = x.raft_group_id;
@@ -108,7 +108,7 @@ fn retirements_full(retirements: Retirements) -> bool
 }
 
 // The checks of a retirement that is not known yet, by the placement of its group's tablet.
-fn judge_new_retirement(
+pub fn judge_new_retirement(
     tablet: TabletId,
     placed: PlacementFound,
     full: bool,

@@ -2,7 +2,7 @@
 use Prim.Native.Nat.{ℕ, _≤_, _<_}
 use native.Mathlib.Omega.{arith}
 use mathlib.Core.Logic.{_≢_}
-use mathlib.Core.Path.{_≡_, sym, ap, _∙_}
+use mathlib.Core.Path.{_≡_, refl, sym, ap, _∙_}
 use mathlib.Core.Bool.{Bool, true, false, not}
 use mathlib.Core.List.{List, map}
 use lib.ListN.{take}
@@ -26,7 +26,7 @@ use Rattle.metadata.specs.declared.DesiredReplicaPlacement.{DesiredReplicaPlace
 use Rattle.metadata.specs.declared.RetiredReplicaLifetime.{RetiredReplicaLifetime}
 use Rattle.metadata.specs.declared.Nodes.{Nodes}
 use Rattle.retirements.specs.Steps.{retiredNumbers}
-use Rattle.standing.specs.Standing.{hostFound, judgeStanding}
+use Rattle.standing.specs.Standing.{hostFound, judgeHost, judgeStanding}
 use Rattle.standing.proofs.Turns.{at-first, at-second, at-third}
 
 -- the row of a node that is there is the model's
@@ -72,19 +72,29 @@ module _ (host : NodeFound) (old : DesiredReplicaPlacement) (group : RaftGroupId
             rw (← host-there nodes s, not-false (host .there) e, ← replica-row nodes s, ← q, ← q₁, not-false b h, ← q₂, h₁, ← q₃, h₂)
 
 -- ---- a preferred leader
-module _ (nodes : Nodes) (k : NodeId) (n : NodeFound) (s : n .there ≡ has nodeKey (k .0) (viewNodes nodes)) where
-  pub leader-unknown : not (n .there) ≡ true → A.UnknownNode k ≡ judgeLeader (viewNodes nodes) k
-  unfolding judgeLeader _⊳_ refuse
-  leader-unknown e = rw (← s, not-true (n .there) e)
+module _ (k : NodeId) (n : NodeFound) where
+  pub leader-unknown : not (n .there) ≡ true → A.UnknownNode k ≡ judgeHost n k
+  unfolding judgeHost _⊳_ refuse
+  leader-unknown e = rw e
 
-  module _ (g : n .row ≡ row nodeKey zeroNode (k .0) (viewNodes nodes)) (e : not (n .there) ≡ false) where
-    pub leader-active : n .row .lifecycle ≡ 0 → A.Applied ≡ judgeLeader (viewNodes nodes) k
-    unfolding judgeLeader _⊳_ refuse
-    leader-active h = rw (← s, not-false (n .there) e, ← host-row (viewNodes nodes) (k .0) n s g e, eq-eqb _ _ h)
+  module _ (e : not (n .there) ≡ false) where
+    pub leader-active : n .row .lifecycle ≡ 0 → A.Applied ≡ judgeHost n k
+    unfolding judgeHost _⊳_ refuse
+    leader-active h = rw (e, eq-eqb _ _ h)
 
-    pub leader-idle : n .row .lifecycle ≢ 0 → A.NodeNotEligible k (n .row .lifecycle) ≡ judgeLeader (viewNodes nodes) k
-    unfolding judgeLeader _⊳_ refuse
-    leader-idle h = rw (← s, not-false (n .there) e, ← host-row (viewNodes nodes) (k .0) n s g e, ne-eqb _ _ h)
+    pub leader-idle : n .row .lifecycle ≢ 0 → A.NodeNotEligible k (n .row .lifecycle) ≡ judgeHost n k
+    unfolding judgeHost _⊳_ refuse
+    leader-idle h = rw (e, ne-eqb _ _ h)
+
+  -- n is what the lookup among the nodes gave
+  module _ (nodes : List NodeDescriptor) (s : n .there ≡ has nodeKey (k .0) nodes) (g : n .row ≡ row nodeKey zeroNode (k .0) nodes) where
+    by-host : (t : Bool) → not (n .there) ≡ t → judgeHost n k ≡ judgeLeader nodes k
+    unfolding judgeHost judgeLeader _⊳_ refuse
+    by-host true e = rw (← s, not-true (n .there) e)
+    by-host false e = rw (← s, not-false (n .there) e, ← host-row nodes (k .0) n s g e)
+
+    pub leader-judged : (a : Answer) → a ≡ judgeHost n k → a ≡ judgeLeader nodes k
+    leader-judged a q = q ∙ by-host (not (n .there)) refl
 
 -- ---- a failure domain
 module _ (domain required seen : ℕ) where

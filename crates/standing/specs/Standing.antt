@@ -1,14 +1,16 @@
 -- Parts of the checks of where copies may stand, as the functions here have them. Assumes nothing.
 use Prim.Native.Nat.{ℕ}
-use mathlib.Core.Bool.{Bool, cond, _&&_}
+use mathlib.Core.Bool.{Bool, not, cond, _&&_}
 use mathlib.Core.List.{List}
 use lib.Dec.{eqb}
 use Rattle.laws.specs.Keyed.{has, row}
 use Rattle.rows.specs.declared.NodeFound.{NodeFound}
-use Rattle.metadata.specs.Answers.{_⊳_, each}
+use Rattle.metadata.specs.Answers.{_⊳_, refuse, each}
 use Rattle.metadata.specs.Tables.{nodeKey, desired, leaders, zeroNode}
 use Rattle.metadata.specs.Placements.{judgeReplica, judgeLeader, judgeDomains}
 use Rattle.metadata.specs.declared.Answer.{Answer}
+use Rattle.metadata.specs.declared.Answer.the-variants as A
+use Rattle.metadata.specs.declared.NodeId.{NodeId}
 use Rattle.metadata.specs.declared.RaftGroupId.{RaftGroupId}
 use Rattle.metadata.specs.declared.OptionalLabel.{OptionalLabel}
 use Rattle.metadata.specs.declared.NodeDescriptor.{NodeDescriptor}
@@ -23,6 +25,10 @@ samePlace r o = eqb (o .«replica_id» .0) (r .«replica_id» .0) && eqb (o .«n
 -- what the lookup of a replica's node gives
 abbrev pub hostFound : List NodeDescriptor → DesiredReplica → NodeFound
 hostFound nodes r = record { there = has nodeKey (r .«node_id» .0) nodes; row = row nodeKey zeroNode (r .«node_id» .0) nodes }
+
+-- judgeLeader, where the node's row is at hand
+unfoldable pub judgeHost : NodeFound → NodeId → Answer
+judgeHost n k = refuse (not (n .there)) (A.UnknownNode k) ⊳ refuse (not (eqb (n .row .lifecycle) 0)) (A.NodeNotEligible k (n .row .lifecycle))
 
 -- a node's label: 0 its region, 1 its zone, else its rack
 abbrev pub labelIn : ℕ → NodeDescriptor → OptionalLabel

@@ -11,7 +11,7 @@ ghost use Rattle.metadata.specs.Tablets.{isReplicaRetired};
 ghost use Rattle.metadata.specs.declared.NodeDescriptor.{NodeDescriptor};
 ghost use Rattle.metadata.specs.declared.RetiredReplicaLifetime.{RetiredReplicaLifetime};
 ghost use Rattle.retirements.specs.Steps.{retiredNumbers};
-ghost use Rattle.standing.specs.Standing.{samePlace, hostFound, labelIn, foundLabel, judgeStanding};
+ghost use Rattle.standing.specs.Standing.{samePlace, hostFound, judgeHost, labelIn, foundLabel, judgeStanding};
 use labels::distinct_labels;
 use metadata::Answer;
 use metadata::DesiredReplica;
@@ -23,10 +23,10 @@ use metadata::OptionalLabel;
 use metadata::PlacementPolicy;
 use metadata::REPLICA_ROOM;
 use metadata::RaftGroupId;
-use metadata::is_applied;
 use node_rows::lookup_node;
 use records::no_label;
 use records::zero_node;
+use reports::is_applied;
 use retirements::Numbers;
 use retirements::is_replica_retired;
 use rows::LookedUp;
@@ -137,10 +137,10 @@ pub fn judge_replicas(
 
 // ---- preferred leaders
 
-pub fn judge_leader(nodes: Nodes, k: NodeId) -> Answer
-    ensures { λ a. ⌜ a ≡ judgeLeader (viewNodes nodes) k ⌝ }
+// 17 and 26, for one preferred leader by what its lookup gave: it is there, and Active.
+pub fn judge_host(n: NodeFound, k: NodeId) -> Answer
+    ensures { λ a. ⌜ a ≡ judgeHost n k ⌝ }
 {
-    let n = lookup_node(nodes, k);
     let LookedUp::Row = looked(n.there) else {
         return Answer::UnknownNode(k);
     };
@@ -149,6 +149,13 @@ pub fn judge_leader(nodes: Nodes, k: NodeId) -> Answer
         return Answer::Applied;
     }
     Answer::NodeNotEligible(k, lifecycle)
+}
+
+// The same among the nodes.
+pub fn judge_leader(nodes: Nodes, k: NodeId) -> Answer
+    ensures { λ a. ⌜ a ≡ judgeLeader (viewNodes nodes) k ⌝ }
+{
+    judge_host(lookup_node(nodes, k), k)
 }
 
 pub fn judge_leaders(nodes: Nodes, q: PlacementPolicy) -> Answer

@@ -24,9 +24,9 @@ use metadata::TableRow;
 use metadata::Tables;
 use metadata::TabletDescriptor;
 use metadata::Tablets;
-use metadata::is_applied;
 use records::same_tablet;
 use records::zero_table;
+use reports::is_applied;
 use table_rows::find_table;
 use table_rows::table_at;
 use tablet_rows::find_group;
@@ -43,13 +43,15 @@ pub fn table_of(id: TableId, tables: Tables) -> TableRow
     table_at(tables, i)
 }
 
-fn in_table(k: TableId, t: TabletDescriptor) -> bool
+// The tablet is one of the table's.
+pub fn in_table(k: TableId, t: TabletDescriptor) -> bool
     ensures { λ r. ⌜ r ≡ inTable k t ⌝ }
 {
     t.table_id.0 == k.0
 }
 
-fn one(b: bool) -> usize
+// What a row adds to a count.
+pub fn one(b: bool) -> usize
     ensures { λ r. ⌜ (r ≡ cond b 1 0) × (r ≤ 1) ⌝ }
 {
     if b { 1 } else { 0 }
@@ -74,7 +76,8 @@ pub fn count_in_table(k: TableId, tablets: Tablets) -> usize
     found
 }
 
-fn holds_bucket(k: TableId, bucket: u32, t: TabletDescriptor) -> bool
+// A Hash tablet of the table, with the bucket.
+pub fn holds_bucket(k: TableId, bucket: u32, t: TabletDescriptor) -> bool
     ensures { λ r. ⌜ r ≡ holdsBucket k bucket t ⌝ }
 {
     (t.partition.kind == 0) & (in_table(k, t) & (t.partition.bucket == bucket))
@@ -120,7 +123,7 @@ pub fn judge_hash(tables: Tables, tablets: Tablets, t: TabletDescriptor) -> Answ
 }
 
 // The new tablet's range against that of one row.
-fn overlap_at(t: TabletDescriptor, old: TabletDescriptor) -> Answer
+pub fn overlap_at(t: TabletDescriptor, old: TabletDescriptor) -> Answer
     ensures { λ r. ⌜ r ≡ overlapAt t old ⌝ }
 {
     let id = old.tablet_id;

@@ -1,39 +1,17 @@
 -- `standing::judge_leader` meets its contract. Assumes nothing.
 use borrow.Author.Needs.{needs}
-use Rattle.rows.proofs.Lookup.{looked-none, looked-row}
-use Rattle.standing.proofs.Checks.{leader-unknown, leader-active, leader-idle}
+use Rattle.standing.proofs.Checks.{leader-judged}
 use Rattle.standing.proofs.judge_leader.Statement.{statement}
 use Rattle.standing.proofs.judge_leader.Tie as tie
 
 lookup-node-requires : tie.Need-lookup-node-requires
 lookup-node-requires c κs = search needs
 
-looked-requires : tie.Need-looked-requires
-looked-requires c κs = search needs
-
-enum-told : tie.Need-enum-told
-enum-told c = search needs
-
-enum-told-2 : tie.Need-enum-told-2
-enum-told-2 c = search needs
+judge-host-requires : tie.Need-judge-host-requires
+judge-host-requires c κs = search needs
 
 returns : tie.Need-returns
-returns c = search (needs, leader-unknown, looked-none)
-
-returns-2 : tie.Need-returns-2
-returns-2 c = search (needs, leader-active, looked-row)
-
-returns-3 : tie.Need-returns-3
-returns-3 c = search (needs, leader-idle, looked-row)
+returns c = search (needs, leader-judged)
 
 pub judge-leader-spec : {M : Type 1} → statement M
-judge-leader-spec =
-    tie.close
-    (tie.spec
-    lookup-node-requires
-    looked-requires
-    enum-told
-    enum-told-2
-    returns
-    returns-2
-    returns-3)
+judge-leader-spec = tie.close (tie.spec lookup-node-requires judge-host-requires returns)
