@@ -1,0 +1,65 @@
+use Prim.Native.Nat.{_-_}
+use mathlib.Core.List.{map}
+use lib.ListN.{length, length-map}
+use Rattle.laws.proofs.Search.{Searching, searching}
+use Rattle.metadata.specs.Tables.{placementKey, blankPlacement}
+use Rattle.rows.specs.Results.{under}
+use Rattle.lent_rows.specs.Lent.{placementRow}
+use Rattle.lent_placements.proofs.find_placement.Statement.{statement}
+use Rattle.lent_placements.proofs.find_placement.Tie as tie
+use Rattle.lent_placements.proofs.find_placement.Reads as reads
+use Rattle.lent_placements.proofs.find_placement.Lts as lts
+use Rattle.lent_placements.proofs.placement_is.Reads as placement-is-reads
+
+abbrev Inv-loop : tie.InvT-loop
+Inv-loop rows count id i₀ i = Searching blankPlacement (under placementKey (id .0)) (length rows) count (map placementRow rows) i
+
+abbrev μ-loop : tie.MeasureT-loop
+μ-loop rows count id i₀ i = count - i
+
+-- src/lib.rt:42:5
+loop-holds : tie.Need-loop-holds Inv-loop μ-loop
+loop-holds c = search (length-map, searching)
+
+-- src/lib.rt:44:13
+returns : tie.Need-returns Inv-loop μ-loop
+returns c = search searching
+
+-- src/lib.rt:46:12
+placement-is-requires : tie.Need-placement-is-requires Inv-loop μ-loop
+placement-is-requires c κs = search searching
+
+-- src/lib.rt:47:13
+returns-2 : tie.Need-returns-2 Inv-loop μ-loop
+returns-2 c = search searching
+
+-- src/lib.rt:49:9
+add-i : tie.Need-add-i Inv-loop μ-loop
+add-i c = search searching
+
+-- src/lib.rt:42:5
+loop-less : tie.Need-loop-less Inv-loop μ-loop
+loop-less c = search searching
+
+-- src/lib.rt:42:5
+loop-again : tie.Need-loop-again Inv-loop μ-loop
+loop-again c = search searching
+
+-- src/lib.rt:38:1
+returns-3 : tie.Need-returns-3 Inv-loop μ-loop
+returns-3 c = search searching
+
+pub find-placement-spec : {M : Type 1} → statement M
+find-placement-spec =
+    tie.close
+    (tie.spec
+    Inv-loop
+    μ-loop
+    loop-holds
+    returns
+    placement-is-requires
+    returns-2
+    add-i
+    loop-less
+    loop-again
+    returns-3)

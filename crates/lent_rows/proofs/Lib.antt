@@ -1,0 +1,5 @@
+-- The laws that belong to no one function. Assumes nothing.
+pub mod Fields
+pub mod Mapped
+pub mod Placed
+pub mod Shift

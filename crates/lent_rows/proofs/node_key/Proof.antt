@@ -1,0 +1,27 @@
+use borrow.Author.Needs.{needs}
+use Rattle.lent_rows.proofs.Fields.{node-id-got}
+use Rattle.lent_rows.proofs.node_key.Statement.{statement}
+use Rattle.lent_rows.proofs.node_key.Tie as tie
+use Rattle.lent_rows.proofs.node_key.Reads as reads
+use Rattle.lent_rows.proofs.node_key.Lts as lts
+use Rattle.decode.proofs.number8.Reads as number8-reads
+
+-- src/lib.rt:48:21
+mul-number8 : tie.Need-mul-number8
+mul-number8 c = search needs
+
+-- src/lib.rt:48:21
+shared-slice-element-number8 : tie.Need-shared-slice-element-number8
+shared-slice-element-number8 c = search needs
+
+-- src/lib.rt:48:5
+number8-requires : tie.Need-number8-requires
+number8-requires c κs = search needs
+
+-- src/lib.rt:44:1
+returns : tie.Need-returns
+returns c = search (needs, node-id-got)
+
+pub node-key-spec : {M : Type 1} → statement M
+node-key-spec =
+    tie.close (tie.spec mul-number8 shared-slice-element-number8 number8-requires returns)
