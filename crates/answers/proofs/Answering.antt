@@ -1,23 +1,19 @@
 -- What a command of the tape is answered: what is asked before its own checks, then these, a law for each command. Assumes nothing.
-use Prim.Native.Nat.{ℕ, zero, suc, _+_, _≤_}
+use Prim.Native.Nat.{ℕ, zero, suc, _+_, _≤_, _<_}
 use native.Mathlib.Omega.{arith}
-use mathlib.Core.Path.{_≡_, refl, sym, ap, ap₂, _∙_}
+use mathlib.Core.Path.{_≡_, refl, sym, ap, _∙_}
 use mathlib.Core.Bool.{Bool, true, false, not, cond, _&&_}
 use mathlib.Core.List.{List}
 use lib.Dec.{leb}
-use borrow.Author.Tests.{eq-eqb, ne-eqb, leb-true, leb-false, le-leb, lt-leb, not-true, not-false}
+use borrow.Author.Tests.{eq-eqb, ne-eqb, leb-true}
 use Rattle.laws.proofs.ListLaws.{and-both}
 use Rattle.decode.specs.Decode.{numberAt, byteAt, nameAt, nodeAt, tabletAt, placementAt, retirementAt}
+use Rattle.held.specs.Stores.{lentStore}
+use Rattle.held.specs.declared.Held.{Held}
+use Rattle.lent_rows.specs.Lent.{lentNodes, lentTablets, lentPlacements, lentRetirements}
 use Rattle.metadata.specs.Answers.{isApplied, _⊳_, refuse}
 use Rattle.metadata.specs.Commands.{
   Command,
-  naming,
-  registering,
-  lifecycle,
-  tablet,
-  placement,
-  retirement,
-  picking,
   lowest,
   faults,
   namingFaults,
@@ -32,23 +28,56 @@ use Rattle.metadata.specs.Labels.{judgePicking}
 use Rattle.metadata.specs.Nodes.{judgeNaming, judgeRegistering, judgeLifecycle}
 use Rattle.metadata.specs.Tablets.{judgeTablet, judgeRetirement}
 use Rattle.metadata.specs.Placements.{judgePlacement}
-use Rattle.metadata.specs.Model.{admission, decided, decide, judge, view, viewNodes, viewTables, viewTablets, viewPlacements, viewRetirements}
+use Rattle.metadata.specs.Model.{
+  StoreRows,
+  admission,
+  decided,
+  decide,
+  judge,
+  view,
+  viewNodes,
+  viewTables,
+  viewTablets,
+  viewPlacements,
+  viewRetirements,
+}
 use Rattle.metadata.specs.declared.Answer.{Answer}
 use Rattle.metadata.specs.declared.Answer.the-variants as A
-use Rattle.metadata.specs.declared.Catalog.{Catalog}
 use Rattle.metadata.specs.declared.DesiredReplicaPlacement.{DesiredReplicaPlacement}
-use Rattle.metadata.specs.declared.Directory.{Directory}
 use Rattle.metadata.specs.declared.Name.{Name}
 use Rattle.metadata.specs.declared.NodeDescriptor.{NodeDescriptor}
 use Rattle.metadata.specs.declared.OptionalName.{OptionalName}
 use Rattle.metadata.specs.declared.RetiredReplicaLifetime.{RetiredReplicaLifetime}
-use Rattle.metadata.specs.declared.Placements.{Placements}
 use Rattle.metadata.specs.declared.TabletDescriptor.{TabletDescriptor}
-use Rattle.metadata.specs.declared.Tablets.{Tablets}
 use Rattle.metadata.proofs.AnswerLaws.{stop, go-on}
-use Rattle.answers.specs.Turns.{storeOf, admitted}
+use Rattle.answers.specs.Turns.{admitted}
 use Rattle.reading.specs.Reader.{isCommand, commandAt}
-use Rattle.answers.proofs.Changing.{bounds}
+
+-- ---- which command it is
+
+pub bounds : (b : ℕ) → isCommand b ≡ true → (1 ≤ b) × (b ≤ 7)
+bounds b k = let g = and-both (leb 1 b) (leb b 7) k in (leb-true 1 b (g .0), leb-true b 7 (g .1))
+
+-- none but the first is below the second
+pub behind-first : (b : ℕ) → isCommand b ≡ true → (b ≡ 1 → ⊥) → 2 ≤ b
+behind-first b k n1 = go b (bounds b k .0) n1
+  where
+    go : (n : ℕ) → 1 ≤ n → (n ≡ 1 → ⊥) → 2 ≤ n
+    go n a f1 = omega arith
+
+-- the last of the two after the first
+pub third : (b : ℕ) → 2 ≤ b → b ≤ 3 → (b ≡ 2 → ⊥) → b ≡ 3
+third b a z n2 = omega arith
+
+-- the last of the three in the middle
+pub sixth : (b : ℕ) → 4 ≤ b → b ≤ 6 → (b ≡ 4 → ⊥) → (b ≡ 5 → ⊥) → b ≡ 6
+sixth b a z n4 n5 = omega arith
+
+seventh : (b : ℕ) → isCommand b ≡ true → 6 < b → b ≡ 7
+seventh b k h = go b (bounds b k .1) h
+  where
+    go : (n : ℕ) → n ≤ 7 → 6 < n → n ≡ 7
+    go n z h = omega arith
 
 -- ---- the lowest reason
 
@@ -124,140 +153,79 @@ module _ (name : OptionalName) (b : ℕ) (l : List ℕ) (at r : ℕ) (q : r ≡ 
     unfolding admitted admission _⊳_ refuse
     none-early e = rw (← q, eq-eqb r 0 h, needs-go b l at k, ← n, e)
 
--- ---- x is what was asked before, f whether that passes
+-- ---- the command's own checks: a is what the code answers
 
--- the last of the three in the middle
-sixth : (n : ℕ) → 4 ≤ n → n ≤ 6 → (n ≡ 4 → ⊥) → (n ≡ 5 → ⊥) → n ≡ 6
-sixth n a z f4 f5 = omega arith
+module _ (h : Held) (ns ts ps rs : List (List ℕ)) (b : ℕ) (l : List ℕ) (at : ℕ) (a : Answer) where
+  abbrev judged : Type 0
+  judged = a ≡ judge (view (lentStore h ns ts ps rs)) (commandAt b l at)
 
--- the last of the two after the first
-third : (n : ℕ) → 2 ≤ n → n ≤ 3 → (n ≡ 2 → ⊥) → n ≡ 3
-third n a z f2 = omega arith
+  pub judged-naming : (t : Name) → b ≡ 1 → t ≡ nameAt l at → a ≡ judgeNaming (h .«cluster_id») t → judged
+  unfolding commandAt lentStore
+  judged-naming t e q p = rw e (p ∙ ap (judgeNaming (h .«cluster_id»)) q)
 
-pub third-of : (b : ℕ) → (leb 2 b && leb b 3) ≡ true → (b ≡ 2 → ⊥) → b ≡ 3
-third-of b w n2 = let i = and-both (leb 2 b) (leb b 3) w in third b (leb-true 2 b (i .0)) (leb-true b 3 (i .1)) n2
+  pub judged-registering : (n : NodeDescriptor) → b ≡ 2 → n ≡ nodeAt l at →
+      a ≡ judgeRegistering (viewNodes (lentNodes (h .nodes) ns)) (viewTablets (lentTablets (h .tablets) ts)) (viewPlacements (lentPlacements (h .placements) ps)) n → judged
+  unfolding commandAt lentStore
+  judged-registering n e q p =
+      rw e
+      (p ∙ ap (judgeRegistering (viewNodes (lentNodes (h .nodes) ns)) (viewTablets (lentTablets (h .tablets) ts)) (viewPlacements (lentPlacements (h .placements) ps))) q)
 
-pub sixth-of : (b : ℕ) → (leb 4 b && leb b 6) ≡ true → (b ≡ 4 → ⊥) → (b ≡ 5 → ⊥) → b ≡ 6
-sixth-of b w n4 n5 = let i = and-both (leb 4 b) (leb b 6) w in sixth b (leb-true 4 b (i .0)) (leb-true b 6 (i .1)) n4 n5
+  pub judged-lifecycle : (k to : ℕ) → 2 ≤ b → b ≤ 3 → (b ≡ 2 → ⊥) → k ≡ numberAt 8 l at → to ≡ byteAt l (at + 8) →
+      a ≡ judgeLifecycle (viewNodes (lentNodes (h .nodes) ns)) (viewTablets (lentTablets (h .tablets) ts)) (viewPlacements (lentPlacements (h .placements) ps)) (record { 0 = k }) to → judged
+  unfolding commandAt lentStore
+  judged-lifecycle k to low high n2 q w p = rw (third b low high n2) (p ∙ rw (q, w))
+
+  pub judged-tablet : (t : TabletDescriptor) → b ≡ 4 → t ≡ tabletAt l at → a ≡ judgeTablet (viewTables (h .tables)) (viewTablets (lentTablets (h .tablets) ts)) t → judged
+  unfolding commandAt lentStore
+  judged-tablet t e q p = rw e (p ∙ ap (judgeTablet (viewTables (h .tables)) (viewTablets (lentTablets (h .tablets) ts))) q)
+
+  pub judged-placement : (x : DesiredReplicaPlacement) → b ≡ 5 → x ≡ placementAt l at →
+      a ≡ judgePlacement (viewNodes (lentNodes (h .nodes) ns)) (viewTablets (lentTablets (h .tablets) ts)) (viewPlacements (lentPlacements (h .placements) ps))
+      (viewRetirements (lentRetirements (h .retirements) rs)) x → judged
+  unfolding commandAt lentStore
+  judged-placement x e q p =
+      rw e
+      (p
+      ∙ ap
+      (judgePlacement (viewNodes (lentNodes (h .nodes) ns)) (viewTablets (lentTablets (h .tablets) ts)) (viewPlacements (lentPlacements (h .placements) ps))
+      (viewRetirements (lentRetirements (h .retirements) rs)))
+      q)
+
+  pub judged-retirement : (x : RetiredReplicaLifetime) → 4 ≤ b → b ≤ 6 → (b ≡ 4 → ⊥) → (b ≡ 5 → ⊥) → x ≡ retirementAt l at →
+      a ≡ judgeRetirement (viewTablets (lentTablets (h .tablets) ts)) (viewPlacements (lentPlacements (h .placements) ps)) (viewRetirements (lentRetirements (h .retirements) rs)) x → judged
+  unfolding commandAt lentStore
+  judged-retirement x low high n4 n5 q p =
+      rw (sixth b low high n4 n5)
+      (p
+      ∙ ap (judgeRetirement (viewTablets (lentTablets (h .tablets) ts)) (viewPlacements (lentPlacements (h .placements) ps)) (viewRetirements (lentRetirements (h .retirements) rs))) q)
+
+  pub judged-picking : isCommand b ≡ true → 6 < b → a ≡ judgePicking (viewNodes (lentNodes (h .nodes) ns)) → judged
+  unfolding commandAt lentStore
+  judged-picking k high p = rw (seventh b k high) p
+
+-- ---- the answer: what is asked before, then the command's own checks
 
 together-go : (a b c : Answer) (t : Bool) → isApplied a ≡ t → (cond t b a) ⊳ c ≡ cond t (b ⊳ c) a
 unfolding _⊳_
 together-go a b c true e = refl
 together-go a b c false e = rw e
 
-module _ (d : Directory) (c : Catalog) (b : ℕ) (l : List ℕ) (at : ℕ) (x : Answer) (q : x ≡ admitted (d .«cluster_id») (commandAt b l at))
-    (f : Bool) (t : f ≡ isApplied x) where
-  abbrev own : Answer
-  own = judge (view (storeOf d c)) (commandAt b l at)
+pub parted : (s : StoreRows) (c : Command) → decide s c ≡ admitted (s .directory .name) c ⊳ judge s c
+unfolding decided admitted _⊳_
+parted s c =
+    sym (together-go (admission c) (refuse (needsName c && not (s .directory .name .present)) A.NotInitialized) (judge s c) (isApplied (admission c)) refl)
 
-  parted : decide (view (storeOf d c)) (commandAt b l at) ≡ admitted (d .«cluster_id») (commandAt b l at) ⊳ own
-  unfolding decided admitted _⊳_
-  parted =
-      sym
-      (together-go
-      (admission (commandAt b l at))
-      (refuse (needsName (commandAt b l at) && not (d .«cluster_id» .present)) A.NotInitialized)
-      own
-      (isApplied (admission (commandAt b l at)))
-      refl)
+-- x is what was asked before, f whether that passes
+module _ (h : Held) (ns ts ps rs : List (List ℕ)) (c : Command) (x : Answer) (q : x ≡ admitted (h .«cluster_id») c) (f : Bool) (t : f ≡ isApplied x) where
+  abbrev store : StoreRows
+  store = view (lentStore h ns ts ps rs)
 
-  pub not-admitted : not f ≡ true → x ≡ decide (view (storeOf d c)) (commandAt b l at)
-  not-admitted h = sym (parted ∙ stop x _ own q (sym t ∙ not-true f h))
+  same : x ≡ admitted (store .directory .name) c
+  unfolding lentStore
+  same = q
 
-  module _ (h : not f ≡ false) (a : Answer) where
-    on : a ≡ own → a ≡ decide (view (storeOf d c)) (commandAt b l at)
-    on e = e ∙ sym (parted ∙ go-on x _ own q (sym t ∙ not-false f h))
+  pub refused-early : f ≡ false → x ≡ decide store c
+  refused-early g = sym (parted store c ∙ stop x _ (judge store c) same (sym t ∙ g))
 
-    on-naming : (n : Name) → b ≡ 1 → n ≡ nameAt l at → a ≡ judgeNaming (d .«cluster_id») n → a ≡ decide (view (storeOf d c)) (commandAt b l at)
-    unfolding commandAt
-    on-naming n e g p = on (rw e (p ∙ ap (judgeNaming (d .«cluster_id»)) g))
-
-    on-registering : (n : NodeDescriptor) → b ≡ 2 → n ≡ nodeAt l at →
-        a ≡ judgeRegistering (viewNodes (d .nodes)) (viewTablets (c .tablets)) (viewPlacements (c .placements)) n → a ≡ decide (view (storeOf d c)) (commandAt b l at)
-    unfolding commandAt
-    on-registering n e g p =
-        on (rw e (p ∙ ap (judgeRegistering (viewNodes (d .nodes)) (viewTablets (c .tablets)) (viewPlacements (c .placements))) g))
-
-    on-lifecycle : (k to : ℕ) → b ≡ 3 → k ≡ numberAt 8 l at → to ≡ byteAt l (at + 8) →
-        a ≡ judgeLifecycle (viewNodes (d .nodes)) (viewTablets (c .tablets)) (viewPlacements (c .placements)) (record { 0 = k }) to → a ≡ decide (view (storeOf d c)) (commandAt b l at)
-    unfolding commandAt
-    on-lifecycle k to e g w p = on (rw e (p ∙ rw (g, w)))
-
-    pub on-tablet : (n : TabletDescriptor) → b ≡ 4 → n ≡ tabletAt l at → a ≡ judgeTablet (viewTables (c .tables)) (viewTablets (c .tablets)) n →
-        a ≡ decide (view (storeOf d c)) (commandAt b l at)
-    unfolding commandAt
-    on-tablet n e g p = on (rw e (p ∙ ap (judgeTablet (viewTables (c .tables)) (viewTablets (c .tablets))) g))
-
-    pub on-placement : (n : DesiredReplicaPlacement) → b ≡ 5 → n ≡ placementAt l at →
-        a ≡ judgePlacement (viewNodes (d .nodes)) (viewTablets (c .tablets)) (viewPlacements (c .placements)) (viewRetirements (c .retirements)) n →
-        a ≡ decide (view (storeOf d c)) (commandAt b l at)
-    unfolding commandAt
-    on-placement n e g p =
-        on
-        (rw e
-        (p ∙ ap (judgePlacement (viewNodes (d .nodes)) (viewTablets (c .tablets)) (viewPlacements (c .placements)) (viewRetirements (c .retirements))) g))
-
-    pub on-retirement : (n : RetiredReplicaLifetime) → (leb 4 b && leb b 6) ≡ true → (b ≡ 4 → ⊥) → (b ≡ 5 → ⊥) → n ≡ retirementAt l at →
-        a ≡ judgeRetirement (viewTablets (c .tablets)) (viewPlacements (c .placements)) (viewRetirements (c .retirements)) n → a ≡ decide (view (storeOf d c)) (commandAt b l at)
-    unfolding commandAt
-    on-retirement n w n4 n5 g p =
-        let e : b ≡ 6 = sixth-of b w n4 n5 in
-        on (rw e (p ∙ ap (judgeRetirement (viewTablets (c .tablets)) (viewPlacements (c .placements)) (viewRetirements (c .retirements))) g))
-
-    on-picking : b ≡ 7 → a ≡ judgePicking (viewNodes (d .nodes)) → a ≡ decide (view (storeOf d c)) (commandAt b l at)
-    unfolding commandAt
-    on-picking e p = on (rw e p)
-
--- ---- naming and the first choice: whatever the catalog
-
-outside-go : (n : ℕ) (u v : Bool) → leb 2 n ≡ u → leb n 6 ≡ v → (u && v) ≡ false → 1 ≤ n → n ≤ 7 → (n ≡ 1 → ⊥) → n ≡ 7
-outside-go n true true e g w a z f1 = cc
-outside-go n true false e g w a z f1 = let i = leb-false n 6 g in omega (arith, i)
-outside-go n false v e g w a z f1 = absurd (no n (leb-false 2 n e) a f1)
-  where
-    no : (n : ℕ) → suc n ≤ 2 → 1 ≤ n → (n ≡ 1 → ⊥) → ⊥
-    no n i a f1 = omega arith
-
-module _ (d : Directory) (b : ℕ) (l : List ℕ) (at : ℕ) (x : Answer) (q : x ≡ admitted (d .«cluster_id») (commandAt b l at)) (f : Bool) (t : f ≡ isApplied x) where
-  pub refused-always : not f ≡ true → (c : Catalog) → x ≡ decide (view (storeOf d c)) (commandAt b l at)
-  refused-always h c = not-admitted d c b l at x q f t h
-
-  module _ (h : not f ≡ false) (a : Answer) where
-    pub naming-always : (n : Name) → b ≡ 1 → n ≡ nameAt l at → a ≡ judgeNaming (d .«cluster_id») n → (c : Catalog) → a ≡ decide (view (storeOf d c)) (commandAt b l at)
-    naming-always n e g p c = on-naming d c b l at x q f t h a n e g p
-
-    pub picking-always : isCommand b ≡ true → (leb 2 b && leb b 6) ≡ false → (b ≡ 1 → ⊥) → a ≡ judgePicking (viewNodes (d .nodes)) →
-        (c : Catalog) → a ≡ decide (view (storeOf d c)) (commandAt b l at)
-    picking-always k w n1 p c =
-        on-picking d c b l at x q f t h a (outside-go b (leb 2 b) (leb b 6) refl refl w (bounds b k .0) (bounds b k .1) n1) p
-
-  -- ---- registering and lifecycle: whatever the rest of the catalog
-  module _ (tablets : Tablets) (placements : Placements) where
-    pub refused-with : not f ≡ true → (c : Catalog) → tablets ≡ c .tablets → placements ≡ c .placements → x ≡ decide (view (storeOf d c)) (commandAt b l at)
-    refused-with h c k₁ k₂ = refused-always h c
-
-    module _ (h : not f ≡ false) (a : Answer) where
-      pub registering-with : (n : NodeDescriptor) → b ≡ 2 → n ≡ nodeAt l at → a ≡ judgeRegistering (viewNodes (d .nodes)) (viewTablets tablets) (viewPlacements placements) n →
-          (c : Catalog) → tablets ≡ c .tablets → placements ≡ c .placements → a ≡ decide (view (storeOf d c)) (commandAt b l at)
-      registering-with n e g p c k₁ k₂ =
-          on-registering d c b l at x q f t h a n e g
-          (p ∙ ap₂ (λ (y : Tablets) (z : Placements). judgeRegistering (viewNodes (d .nodes)) (viewTablets y) (viewPlacements z) n) k₁ k₂)
-
-      pub lifecycle-with : (k to : ℕ) → (leb 2 b && leb b 3) ≡ true → (b ≡ 2 → ⊥) → k ≡ numberAt 8 l at → to ≡ byteAt l (at + 8) →
-          a ≡ judgeLifecycle (viewNodes (d .nodes)) (viewTablets tablets) (viewPlacements placements) (record { 0 = k }) to →
-          (c : Catalog) → tablets ≡ c .tablets → placements ≡ c .placements → a ≡ decide (view (storeOf d c)) (commandAt b l at)
-      lifecycle-with k to w n2 g v p c k₁ k₂ =
-          on-lifecycle d c b l at x q f t h a k to (third-of b w n2) g v
-          (p ∙ ap₂ (λ (y : Tablets) (z : Placements). judgeLifecycle (viewNodes (d .nodes)) (viewTablets y) (viewPlacements z) (record { 0 = k }) to) k₁ k₂)
-
--- ---- neither among the tablets, placements and retirements nor among the nodes: among the others
-pub beside : (b : ℕ) → (leb 4 b && leb b 6) ≡ false → (leb 2 b && leb b 3) ≡ false → (leb 2 b && leb b 6) ≡ false
-beside zero p q = refl
-beside (suc zero) p q = refl
-beside (suc (suc zero)) p q = q
-beside (suc (suc (suc zero))) p q = q
-beside (suc (suc (suc (suc zero)))) p q = p
-beside (suc (suc (suc (suc (suc zero))))) p q = p
-beside (suc (suc (suc (suc (suc (suc zero)))))) p q = p
-beside (suc (suc (suc (suc (suc (suc (suc n))))))) p q =
-    rw (le-leb 2 (suc (suc (suc (suc (suc (suc (suc n))))))) (omega arith), lt-leb (suc (suc (suc (suc (suc (suc (suc n))))))) 6 (omega arith))
+  pub judged-on : f ≡ true → (a : Answer) → a ≡ judge store c → a ≡ decide store c
+  judged-on g a e = e ∙ sym (parted store c ∙ go-on x _ (judge store c) same (sym t ∙ g))

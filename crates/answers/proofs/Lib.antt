@@ -1,4 +1,3 @@
 -- The laws that belong to no one function. Assumes nothing.
 pub mod Answering
-pub mod Changing
 pub mod Fits
