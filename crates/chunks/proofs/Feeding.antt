@@ -9,8 +9,8 @@ use borrow.Author.Needs.{needs}
 use Rattle.laws.proofs.ListLaws.{never}
 use Rattle.lines.specs.Lines.{lineText, Appended}
 use Rattle.lines.proofs.Texts.{joined}
-use Rattle.metadata.specs.Answers.{isApplied, reported}
-use Rattle.metadata.specs.Model.{decide, view}
+use Rattle.metadata.specs.Answers.{reported}
+use Rattle.metadata.specs.Model.{step}
 use Rattle.metadata.specs.Sound.{sound, run}
 use Rattle.metadata.specs.declared.Answer.{Answer}
 use Rattle.metadata.specs.declared.Answer.the-variants as A
@@ -20,10 +20,12 @@ use Rattle.metadata.specs.declared.Store.{Store}
 use Rattle.metadata.proofs.Theorem.{entry-step, step-sound}
 use Rattle.reading.specs.declared.Next.{Next}
 use Rattle.reading.specs.declared.Next.the-variants as N
-use Rattle.reading.specs.Reader.{Reading, stopped, nextAt, readFrom, tapeAnswers, isCommand, sizeOf, commandAt}
-use Rattle.answers.specs.Turns.{DirectoryChange}
-use Rattle.answers.proofs.Changing.{Turned, turned}
+use Rattle.reading.specs.Reader.{Reading, nextAt, readFrom, tapeAnswers, commandAt}
+use Rattle.held.specs.Stores.{lentStore}
+use Rattle.held.specs.declared.Held.{Held}
 use Rattle.reading.proofs.Reading.{whole, read-whole, read-end, read-unknown, read-cut, next-end}
+use Rattle.turns.proofs.Places.{further-on, turn-ready}
+use Rattle.chunks.specs.declared.Chunk.{Chunk}
 use Rattle.chunks.specs.Chunks.{lineRoom, nextLine, linesText, lineBehind, Fed}
 
 -- ---- one line more
@@ -88,10 +90,40 @@ module _ (l : List ℕ) (s₀ : Store) (from first : ℕ) (old : List ℕ) (s : 
       (joined (linesText first (k .done)) (lineText (lineBehind first (k .done)) (reported a)) old 0 out used new n (k .text)
       (subst (λ (t : List ℕ). Appended t out used new n) (ap₂ lineText (k .numbered) e) p))
 
-  -- the output is full
-  pub feed-full : length out - used < lineRoom → Fed l s₀ from first old (record { store = s; at = at; line = line; used = used; stopped = false; full = true }) out
-  feed-full h =
+  pub feed-next : (x : Next) (b m : ℕ) → x ≡ nextAt l at → x ≡ N.Whole b m → (a : Answer) (s′ : Store) (r : Reported) (new : List ℕ) (n line′ : ℕ) →
+      _≡_ {A = Answered} (record { answer = a; store = s′ }) (step s (commandAt b l (at + 1))) → r ≡ reported a → Appended (lineText line r) out used new n → line′ ≡ (line + 1) % 2 ^ 64 →
+      Feeding l s₀ from first old s′ m line′ n new
+  feed-next x b m q e a s′ r new n line′ d p g z =
       record {
+        done = k .done ++ a ∷ [];
+        split =
+            k .split ∙ ap (λ (t : Reading). k .done ++ tapeAnswers s t) (read-whole l at b m (sym q ∙ e))
+            ∙ ap (λ (t : Answered). k .done ++ (t .answer ∷ tapeAnswers (t .store) (readFrom l m))) (entry-step s (commandAt b l (at + 1)) (k .sounds) ∙ sym d)
+            ∙ sym (append-assoc (k .done) (a ∷ []) (tapeAnswers s′ (readFrom l m)));
+        store =
+            k .store ∙ ap (λ (t : Reading). run s (t .commands)) (read-whole l at b m (sym q ∙ e))
+            ∙ ap (λ (t : Answered). run (t .store) (readFrom l m .commands)) (entry-step s (commandAt b l (at + 1)) (k .sounds) ∙ sym d);
+        text = line-more a r new n p g;
+        numbered = z ∙ ap nextLine (k .numbered) ∙ behind-more first (k .done) a;
+        sounds = subst (λ (t : Answered). sound (t .store) ≡ true) (sym d) (step-sound s (commandAt b l (at + 1)) (k .sounds));
+        inside = whole l at b m (sym q ∙ e) .fits;
+      }
+
+-- ---- the ways out: h and the rows are what is held, c what the code gives
+
+module _ (l : List ℕ) (s₀ : Store) (from first : ℕ) (old : List ℕ) (h : Held) (ns ts ps rs : List (List ℕ)) (at line used : ℕ) (out : List ℕ)
+    (k : Feeding l s₀ from first old (lentStore h ns ts ps rs) at line used out) (c : Chunk) where
+  abbrev Left : Chunk → List ℕ → Type 0
+  Left x new = Fed l s₀ from first old x (lentStore (x .held) ns ts ps rs) new
+
+  abbrev stand : ℕ → Bool → Bool → Chunk
+  stand n s f = record { held = h; at = at; line = line; used = n; stopped = s; full = f }
+
+  -- the output is full
+  pub feed-full : c ≡ stand used false true → length out - used < lineRoom → Left c out
+  feed-full f j =
+      subst (λ (x : Chunk). Left x out) (sym f)
+      (record {
         done = k .done;
         split = k .split;
         store = k .store;
@@ -103,12 +135,13 @@ module _ (l : List ℕ) (s₀ : Store) (from first : ℕ) (old : List ℕ) (s : 
         all = λ e. absurd (never true refl e);
         byte = 0;
         stops = λ e. absurd (never false e refl);
-      }
+      })
 
   -- no whole command is left
-  none-left : readFrom l at .commands ≡ [] → Fed l s₀ from first old (record { store = s; at = at; line = line; used = used; stopped = false; full = false }) out
-  none-left q =
-      record {
+  none-left : c ≡ stand used false false → readFrom l at .commands ≡ [] → Left c out
+  none-left f q =
+      subst (λ (x : Chunk). Left x out) (sym f)
+      (record {
         done = k .done;
         split = k .split;
         store = k .store;
@@ -120,27 +153,27 @@ module _ (l : List ℕ) (s₀ : Store) (from first : ℕ) (old : List ℕ) (s : 
         all = λ e. q;
         byte = 0;
         stops = λ e. absurd (never false e refl);
-      }
+      })
 
-  pub feed-over : length l ≤ at → Fed l s₀ from first old (record { store = s; at = at; line = line; used = used; stopped = false; full = false }) out
-  feed-over h = none-left (ap (λ (r : Reading). r .commands) (read-end l at (sym (next-end l at h))))
+  pub feed-over : c ≡ stand used false false → length l ≤ at → Left c out
+  feed-over f j = none-left f (ap (λ (r : Reading). r .commands) (read-end l at (sym (next-end l at j))))
 
   module _ (x : Next) (q : x ≡ nextAt l at) where
-    pub feed-cut : (b : ℕ) → x ≡ N.Cut b → Fed l s₀ from first old (record { store = s; at = at; line = line; used = used; stopped = false; full = false }) out
-    feed-cut b e = none-left (ap (λ (r : Reading). r .commands) (read-cut l at b (sym q ∙ e)))
+    pub feed-cut : c ≡ stand used false false → (b : ℕ) → x ≡ N.Cut b → Left c out
+    feed-cut f b e = none-left f (ap (λ (r : Reading). r .commands) (read-cut l at b (sym q ∙ e)))
 
-    pub feed-end : x ≡ N.End → Fed l s₀ from first old (record { store = s; at = at; line = line; used = used; stopped = false; full = false }) out
-    feed-end e = none-left (ap (λ (r : Reading). r .commands) (read-end l at (sym q ∙ e)))
+    pub feed-end : c ≡ stand used false false → x ≡ N.End → Left c out
+    feed-end f e = none-left f (ap (λ (r : Reading). r .commands) (read-end l at (sym q ∙ e)))
 
-    pub feed-unknown : (b : ℕ) (r : Reported) (new : List ℕ) (n : ℕ) → x ≡ N.Unknown b → r ≡ reported (A.BadTape 1 b) → Appended (lineText line r) out used new n →
-        Fed l s₀ from first old (record { store = s; at = at; line = line; used = n; stopped = true; full = false }) new
-    feed-unknown b r new n e p a =
+    pub feed-unknown : (b : ℕ) (r : Reported) (new : List ℕ) (n : ℕ) → c ≡ stand n true false → x ≡ N.Unknown b → r ≡ reported (A.BadTape 1 b) → Appended (lineText line r) out used new n → Left c new
+    feed-unknown b r new n f e p a =
         let w = read-unknown l at b (sym q ∙ e) in
-        record {
+        subst (λ (x : Chunk). Left x new) (sym f)
+        (record {
           done = k .done ++ A.BadTape 1 b ∷ [];
-          split = k .split ∙ ap (λ (y : Reading). k .done ++ tapeAnswers s y) w ∙ sym (append-nil (k .done ++ A.BadTape 1 b ∷ []));
+          split = k .split ∙ ap (λ (y : Reading). k .done ++ tapeAnswers (lentStore h ns ts ps rs) y) w ∙ sym (append-nil (k .done ++ A.BadTape 1 b ∷ []));
           store = k .store;
-          text = line-more (A.BadTape 1 b) r new n p a;
+          text = line-more l s₀ from first old (lentStore h ns ts ps rs) at line used out k (A.BadTape 1 b) r new n p a;
           line = λ e. absurd (never true refl e);
           sounds = k .sounds;
           inside = k .inside;
@@ -148,48 +181,8 @@ module _ (l : List ℕ) (s₀ : Store) (from first : ℕ) (old : List ℕ) (s : 
           all = λ e. ap (λ (y : Reading). y .commands) w;
           byte = b;
           stops = λ z. sym q ∙ e;
-        }
-
-    module _ (b m : ℕ) (e : x ≡ N.Whole b m) where
-      pub feed-known : isCommand b ≡ true
-      feed-known = whole l at b m (sym q ∙ e) .known
-
-      pub feed-fits : (at + 1) + sizeOf b ≤ length l
-      feed-fits = let w = whole l at b m (sym q ∙ e) in omega (arith, w .next, w .fits)
-
-      pub feed-less : length l - m < length l - at
-      feed-less = let w = whole l at b m (sym q ∙ e) in omega (arith, w .next, w .inside, w .fits)
-
-      -- naming, registering or lifecycle, answered Applied
-      pub feed-change : (a : Answer) (f : Bool) → a ≡ decide (view s) (commandAt b l (at + 1)) → f ≡ isApplied a → f ≡ true → b < 4 → DirectoryChange (s .directory) b l (at + 1)
-      feed-change a f d w h j =
-          record {
-            catalog = s .catalog;
-            known = feed-known;
-            first = j;
-            fits = feed-fits;
-            sounds = k .sounds;
-            applied = ap isApplied (sym d) ∙ sym w ∙ h;
-          }
-
-      pub feed-next : (a : Answer) (s′ : Store) (r : Reported) (new : List ℕ) (n line′ : ℕ) → Turned (s .directory) (s .catalog) b l (at + 1) a s′ → r ≡ reported a →
-          Appended (lineText line r) out used new n → line′ ≡ (line + 1) % 2 ^ 64 → Feeding l s₀ from first old s′ m line′ n new
-      feed-next a s′ r new n line′ d p g z =
-          record {
-            done = k .done ++ a ∷ [];
-            split =
-                k .split ∙ ap (λ (t : Reading). k .done ++ tapeAnswers s t) (read-whole l at b m (sym q ∙ e))
-                ∙ ap (λ (t : Answered). k .done ++ (t .answer ∷ tapeAnswers (t .store) (readFrom l m))) (entry-step s (commandAt b l (at + 1)) (k .sounds) ∙ sym d)
-                ∙ sym (append-assoc (k .done) (a ∷ []) (tapeAnswers s′ (readFrom l m)));
-            store =
-                k .store ∙ ap (λ (t : Reading). run s (t .commands)) (read-whole l at b m (sym q ∙ e))
-                ∙ ap (λ (t : Answered). run (t .store) (readFrom l m .commands)) (entry-step s (commandAt b l (at + 1)) (k .sounds) ∙ sym d);
-            text = line-more a r new n p g;
-            numbered = z ∙ ap nextLine (k .numbered) ∙ behind-more first (k .done) a;
-            sounds = subst (λ (t : Answered). sound (t .store) ≡ true) (sym d) (step-sound s (commandAt b l (at + 1)) (k .sounds));
-            inside = whole l at b m (sym q ∙ e) .fits;
-          }
+        })
 
 -- for `search feeding` at each need of the loop
 pub ruleset feeding =
-    (feed-start, feed-sound, feed-used, feed-room, feed-long, feed-long-after, feed-full, feed-over, feed-cut, feed-end, feed-unknown, feed-known, feed-fits, feed-less, feed-change, feed-next, turned, needs)
+    (feed-start, feed-sound, feed-used, feed-room, feed-long, feed-long-after, turn-ready, further-on, feed-next, feed-full, feed-over, feed-cut, feed-end, feed-unknown, needs)

@@ -31,15 +31,15 @@ unfoldable pub lineBehind : ℕ → List Answer → ℕ
 lineBehind n [] = n
 lineBehind n (a ∷ l) = lineBehind (nextLine n) l
 
--- A chunk l was run from a place on, on a store s, its lines written at the start of a list.
+-- A chunk l was run from a place on, on a store s, its lines written at the start of a list; s′ is the store that is left.
 -- `done` are the answers that were written; those of the commands left, on the store left, are behind them. A tape stops at a `byte` that is no command.
-pub record Fed (l : List ℕ) (s : Store) (from first : ℕ) (old : List ℕ) (c : Chunk) (new : List ℕ) : Type 0 where
+pub record Fed (l : List ℕ) (s : Store) (from first : ℕ) (old : List ℕ) (c : Chunk) (s′ : Store) (new : List ℕ) : Type 0 where
   pub done : List Answer
-  pub split : tapeAnswers s (readFrom l from) ≡ done ++ cond (c .stopped) [] (tapeAnswers (c .store) (readFrom l (c .at)))
-  pub store : run s (readFrom l from .commands) ≡ run (c .store) (readFrom l (c .at) .commands)
+  pub split : tapeAnswers s (readFrom l from) ≡ done ++ cond (c .stopped) [] (tapeAnswers s′ (readFrom l (c .at)))
+  pub store : run s (readFrom l from .commands) ≡ run s′ (readFrom l (c .at) .commands)
   pub text : Appended (linesText first done) old 0 new (c .used)
   pub line : c .stopped ≡ false → c .line ≡ lineBehind first done
-  pub sounds : sound (c .store) ≡ true
+  pub sounds : sound s′ ≡ true
   pub inside : c .at ≤ length l
   -- it leaves a whole command only where a line has no room
   pub room : c .full ≡ true → length old < c .used + lineRoom

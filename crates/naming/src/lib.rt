@@ -9,7 +9,7 @@ use fields::same_name;
 use metadata::Answer;
 use metadata::Name;
 use metadata::OptionalName;
-use metadata::is_applied;
+use reports::is_applied;
 
 // An answer, with the cluster's name after it.
 pub struct NameAnswered {

@@ -2,6 +2,8 @@
 use Prim.Native.Nat.{ℕ, _≤_}
 use mathlib.Core.Path.{_≡_}
 use mathlib.Core.Bool.{true}
+use mathlib.Core.List.{List}
+use Rattle.held.specs.Stores.{lentStore, Whole}
 use Rattle.metadata.specs.Sound.{sound}
 use Rattle.placement_tape.specs.declared.Feed.{Feed}
 
@@ -9,8 +11,9 @@ use Rattle.placement_tape.specs.declared.Feed.{Feed}
 abbrev pub bufferSize : ℕ
 bufferSize = 65536
 
--- a run that can go on
-pub record GoodFeed (f : Feed) : Type 0 where
-  pub sounds : sound (f .store) ≡ true
+-- a run that can go on, with these rows lent
+pub record GoodFeed (f : Feed) (nodes tablets placements retirements : List (List ℕ)) : Type 0 where
+  pub sounds : sound (lentStore (f .held) nodes tablets placements retirements) ≡ true
+  pub all : Whole nodes tablets placements retirements
   pub inside : f .at ≤ f .filled .have
   pub within : f .filled .have ≤ bufferSize

@@ -4,18 +4,30 @@ ghost use mathlib.Core.Path.{_≡_};
 ghost use mathlib.Core.Bool.{true};
 ghost use Prim.Native.Nat.{_≤_};
 ghost use lib.ListN.{length};
+ghost use Rattle.held.specs.Stores.{lentStore, Whole, Empty};
 ghost use Rattle.metadata.specs.Sound.{sound};
 ghost use Rattle.placement_tape.specs.Feeding.{GoodFeed, bufferSize};
 use chunks::run_chunk;
 use dump::LINE_ROOM;
+use held::Held;
+use held::no_nodes;
+use held::no_placements;
+use held::no_retirements;
+use held::no_rows;
+use held::no_tablets;
+use held::store_of;
+use lent_rows::NodeRow;
+use lent_rows::PlacementRow;
+use lent_rows::RetirementRow;
+use lent_rows::TabletRow;
 use libc::STDERR_FILENO;
 use libc::STDIN_FILENO;
 use libc::STDOUT_FILENO;
 use metadata::Answer;
 use metadata::Store;
-use metadata::is_applied;
-use metadata::report;
 use reading::Next;
+use reports::is_applied;
+use reports::report;
 
 // How much of the tape is held: the size of io::large_buffer. specs/Feeding.antt names it once more.
 const BUFFER_SIZE: usize = 65536;
@@ -27,9 +39,9 @@ pub struct Filled {
     pub done: bool,
 }
 
-// Where the run stands: the place of the next command and its line, and whether all is done.
+// Where the run stands: what is held beside the lent rows, the place of the next command and its line, and whether all is done.
 pub struct Feed {
-    pub store: Store,
+    pub held: Held,
     pub line: u64,
     pub at: usize,
     pub filled: Filled,
@@ -99,19 +111,39 @@ fn refill(buf: [u8; BUFFER_SIZE], at: usize, have: usize, line: u64) -> Filled
 }
 
 // The commands at hand are run and their lines written.
-fn turn(s: Store, buf: [u8; BUFFER_SIZE], have: usize, from: usize, first: u64) -> Feed
-    requires { ⌜ (sound s ≡ true) × ((from ≤ have) × (have ≤ bufferSize)) ⌝ }
-    ensures { λ r. ⌜ GoodFeed r ⌝ }
+fn turn(
+    held: Held,
+    nodes: &mut [NodeRow],
+    tablets: &mut [TabletRow],
+    placements: &mut [PlacementRow],
+    retirements: &mut [RetirementRow],
+    buf: [u8; BUFFER_SIZE],
+    have: usize,
+    from: usize,
+    first: u64,
+) -> Feed
+    requires { ⌜ (sound (lentStore held (now nodes) (now tablets) (now placements) (now retirements)) ≡ true) × Whole (now nodes) (now tablets) (now placements) (now retirements) × ((from ≤ have) × (have ≤ bufferSize)) ⌝ }
+    ensures { λ r. ⌜ GoodFeed r (now (nodes .exit)) (now (tablets .exit)) (now (placements .exit)) (now (retirements .exit)) ⌝ }
 {
     let mut out = io::large_buffer();
-    let c = run_chunk(s, &buf[..have], from, first, &mut out);
+    let c = run_chunk(
+        held,
+        nodes,
+        tablets,
+        placements,
+        retirements,
+        &buf[..have],
+        from,
+        first,
+        &mut out,
+    );
     emit(&out, c.used);
-    let store = c.store;
+    let left = c.held;
     let line = c.line;
     let at = c.at;
     if c.stopped {
         return Feed {
-            store,
+            held: left,
             line,
             at,
             filled: Filled {
@@ -123,7 +155,7 @@ fn turn(s: Store, buf: [u8; BUFFER_SIZE], have: usize, from: usize, first: u64) 
     }
     if c.full {
         return Feed {
-            store,
+            held: left,
             line,
             at,
             filled: Filled {
@@ -135,7 +167,7 @@ fn turn(s: Store, buf: [u8; BUFFER_SIZE], have: usize, from: usize, first: u64) 
     }
     let filled = refill(buf, at, have, line);
     Feed {
-        store,
+        held: left,
         line,
         at: 0,
         filled,
@@ -143,41 +175,94 @@ fn turn(s: Store, buf: [u8; BUFFER_SIZE], have: usize, from: usize, first: u64) 
 }
 
 // A proved loop has to end, and nothing says that an input does: the loop counts its turns down from a number that no run uses up.
-fn feed_all(start: Feed) -> Store
-    requires { ⌜ GoodFeed start ⌝ }
+fn feed_all(
+    start: Feed,
+    nodes: &mut [NodeRow],
+    tablets: &mut [TabletRow],
+    placements: &mut [PlacementRow],
+    retirements: &mut [RetirementRow],
+) -> Held
+    requires { ⌜ GoodFeed start (now nodes) (now tablets) (now placements) (now retirements) ⌝ }
+    ensures { λ r. ⌜ Whole (now (nodes .exit)) (now (tablets .exit)) (now (placements .exit)) (now (retirements .exit)) ⌝ }
 {
     let mut f = start;
     let mut turns = u64::MAX;
     while turns > 0 {
         let filled = f.filled;
         if filled.done {
-            return f.store;
+            return f.held;
         }
         let buf = filled.buf;
-        f = turn(f.store, buf, filled.have, f.at, f.line);
+        f = turn(
+            f.held,
+            nodes,
+            tablets,
+            placements,
+            retirements,
+            buf,
+            filled.have,
+            f.at,
+            f.line,
+        );
         turns -= 1;
     }
-    f.store
+    f.held
 }
 
 // The commands behind an accepted opening.
-fn run_tape(store: Store, buf: [u8; BUFFER_SIZE], have: usize) -> Store
-    requires { ⌜ (sound store ≡ true) × (have ≤ bufferSize) ⌝ }
+fn run_tape(
+    held: Held,
+    nodes: &mut [NodeRow],
+    tablets: &mut [TabletRow],
+    placements: &mut [PlacementRow],
+    retirements: &mut [RetirementRow],
+    buf: [u8; BUFFER_SIZE],
+    have: usize,
+) -> Held
+    requires { ⌜ (sound (lentStore held (now nodes) (now tablets) (now placements) (now retirements)) ≡ true) × Whole (now nodes) (now tablets) (now placements) (now retirements) × (have ≤ bufferSize) ⌝ }
+    ensures { λ r. ⌜ Whole (now (nodes .exit)) (now (tablets .exit)) (now (placements .exit)) (now (retirements .exit)) ⌝ }
 {
     let at = reading::body_at(&buf[..have]);
     if have < at {
-        return store;
+        return held;
     }
-    feed_all(Feed {
-        store,
-        line: 1,
-        at,
-        filled: Filled {
-            buf,
-            have,
-            done: false,
+    feed_all(
+        Feed {
+            held,
+            line: 1,
+            at,
+            filled: Filled {
+                buf,
+                have,
+                done: false,
+            },
         },
-    })
+        nodes,
+        tablets,
+        placements,
+        retirements,
+    )
+}
+
+// The same from the opened store, whose four large tables have no rows; the store that is left.
+fn run_opened(store: Store, buf: [u8; BUFFER_SIZE], have: usize) -> Store
+    requires { ⌜ (sound store ≡ true) × Empty store × (have ≤ bufferSize) ⌝ }
+{
+    let mut nodes = no_nodes();
+    let mut tablets = no_tablets();
+    let mut placements = no_placements();
+    let mut retirements = no_retirements();
+    let held = no_rows(store);
+    let last = run_tape(
+        held,
+        &mut nodes,
+        &mut tablets,
+        &mut placements,
+        &mut retirements,
+        buf,
+        have,
+    );
+    store_of(last, &nodes, &tablets, &placements, &retirements)
 }
 
 // The final tables and marks. No dump has as many lines as the loop would count.
@@ -228,7 +313,7 @@ fn main() {
     let answer = first.answer;
     let mut store = first.store;
     if is_applied(answer) {
-        store = run_tape(store, buf, have);
+        store = run_opened(store, buf, have);
     } else {
         print_line(0, answer);
     }

@@ -17,7 +17,7 @@ use metadata::NodeId;
 use metadata::RetiredReplicaLifetime;
 use metadata::Store;
 use metadata::TabletDescriptor;
-use metadata::is_applied;
+use reports::is_applied;
 
 fn marks_after_tablet(
     answer: Answer,

@@ -1,3 +1,4 @@
 pub mod Running
 pub mod History
+pub mod Begun
 pub mod Loop

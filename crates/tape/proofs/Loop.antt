@@ -1,5 +1,5 @@
 -- The ways out of the run's loop and of the whole run, as the code meets them. Assumes nothing.
-use Prim.Native.Nat.{ℕ, _+_, _*_, _/_, _-_, _≤_, _<_}
+use Prim.Native.Nat.{ℕ, _+_, _*_, _/_, _≤_, _<_}
 use native.Mathlib.Omega.{arith}
 use native.Mathlib.Nat.{div-add-mod', mod-lt}
 use mathlib.Core.Path.{_≡_, refl, sym, ap, ap₂, _∙_, subst}
@@ -9,7 +9,7 @@ use lib.ListN.{length, drop}
 use borrow.Author.Needs.{needs}
 use borrow.Author.Tests.{le-leb, lt-leb}
 use Rattle.metadata.specs.Answers.{reported, isApplied}
-use Rattle.metadata.specs.Model.{decide, view}
+use Rattle.metadata.specs.Model.{step}
 use Rattle.metadata.specs.Sound.{sound, run}
 use Rattle.metadata.specs.declared.Answer.{Answer}
 use Rattle.metadata.specs.declared.Answer.the-variants as A
@@ -19,11 +19,10 @@ use Rattle.reading.specs.declared.Next.{Next}
 use Rattle.reading.specs.declared.Next.the-variants as N
 use Rattle.tape.specs.declared.Ran.{Ran}
 use Rattle.tape.specs.Tape.{written, Done, outcome, finalStore, numbersOf, numbers, ran, ranOut}
-use Rattle.reading.specs.Reader.{stopped, nextAt, readFrom, lines, tapeAnswers, openTape, bodyAt, isCommand, sizeOf, commandAt}
-use Rattle.answers.specs.Turns.{DirectoryChange}
-use Rattle.answers.proofs.Changing.{Turned, turned}
+use Rattle.reading.specs.Reader.{stopped, nextAt, readFrom, lines, tapeAnswers, openTape, bodyAt, commandAt}
 use Rattle.reading.proofs.Opened.{applied}
-use Rattle.reading.proofs.Reading.{whole, next-end, operands-of, read-unknown, read-cut}
+use Rattle.reading.proofs.Reading.{next-end, read-unknown, read-cut}
+use Rattle.turns.proofs.Places.{further-on, turn-ready}
 use Rattle.tape.proofs.Running.{Runs, lines-length, runs-start, runs-next, next-room, runs-stop, stop-room, runs-end}
 
 -- ---- the loop: the answers so far end at the place
@@ -39,37 +38,12 @@ loop-start l s₀ at₀ out₀ e h = record { line = 0; there = refl; long = ref
 
 -- x is what stands at the place
 module _ (l : List ℕ) (s₀ : Store) (at₀ : ℕ) (out₀ : List ℕ) (s : Store) (at place : ℕ) (out : List ℕ) (x : Next) where
-  pub loop-known : (b m : ℕ) → x ≡ nextAt l at → x ≡ N.Whole b m → isCommand b ≡ true
-  loop-known b m q e = whole l at b m (sym q ∙ e) .known
-
-  pub loop-fits : (b m : ℕ) → x ≡ nextAt l at → x ≡ N.Whole b m → (at + 1) + sizeOf b ≤ length l
-  loop-fits b m q e = let w = whole l at b m (sym q ∙ e) in omega (arith, w .next, w .fits)
-
-  pub loop-less : (b m : ℕ) → x ≡ nextAt l at → x ≡ N.Whole b m → length l - m < length l - at
-  loop-less b m q e = let w = whole l at b m (sym q ∙ e) in omega (arith, w .next, w .inside, w .fits)
-
   module _ (k : Stands l s₀ at₀ out₀ s at place out) where
-    pub loop-sound : sound s ≡ true
-    loop-sound = k .runs .sounds
-
-    -- naming, registering or lifecycle, answered Applied
-    pub loop-change : (b m : ℕ) (a : Answer) (f : Bool) → x ≡ nextAt l at → x ≡ N.Whole b m → a ≡ decide (view s) (commandAt b l (at + 1)) → f ≡ isApplied a → f ≡ true → b < 4 →
-        DirectoryChange (s .directory) b l (at + 1)
-    loop-change b m a f q e d w h j =
-        record {
-          catalog = s .catalog;
-          known = loop-known b m q e;
-          first = j;
-          fits = loop-fits b m q e;
-          sounds = k .runs .sounds;
-          applied = ap isApplied (sym d) ∙ sym w ∙ h;
-        }
-
     pub loop-room : (b m : ℕ) → x ≡ nextAt l at → x ≡ N.Whole b m → place + 4 ≤ length out
     loop-room b m q e = omega (arith, k .there, next-room l s₀ at₀ out₀ s at (k .line) out (k .runs) b m (sym q ∙ e))
 
     pub loop-next : (b m : ℕ) (a : Answer) (s′ : Store) (next : ℕ) (new : List ℕ) → x ≡ nextAt l at → x ≡ N.Whole b m → next ≡ place + 4 →
-        Turned (s .directory) (s .catalog) b l (at + 1) a s′ → new ≡ written out place (reported a) → length new ≡ length out → Stands l s₀ at₀ out₀ s′ m next new
+        _≡_ {A = Answered} (record { answer = a; store = s′ }) (step s (commandAt b l (at + 1))) → new ≡ written out place (reported a) → length new ≡ length out → Stands l s₀ at₀ out₀ s′ m next new
     loop-next b m a s′ next new q e f d w z =
         record {
           line = k .line + 1;
@@ -103,6 +77,9 @@ module _ (l : List ℕ) (s₀ : Store) (at₀ : ℕ) (out₀ : List ℕ) (s : St
     pub same-after : (new : List ℕ) → length new ≡ length out → length new ≡ length out₀
     same-after new z = z ∙ k .long
 
+pub loop-sound : (l : List ℕ) (s₀ : Store) (at₀ : ℕ) (out₀ : List ℕ) (s : Store) (at place : ℕ) (out : List ℕ) → Stands l s₀ at₀ out₀ s at place out → sound s ≡ true
+loop-sound l s₀ at₀ out₀ s at place out k = k .runs .sounds
+
 pub over-done : (l : List ℕ) (s₀ : Store) (at₀ : ℕ) (out₀ : List ℕ) (s : Store) (at place : ℕ) (out : List ℕ) → Stands l s₀ at₀ out₀ s at place out → length l ≤ at →
     Done l s₀ at₀ out₀ s out
 over-done l s₀ at₀ out₀ s at place out k h = runs-end l s₀ at₀ out₀ s at (k .line) out (k .runs) (sym (next-end l at h))
@@ -112,7 +89,7 @@ same-now l s₀ at₀ out₀ s at place out k = k .long
 
 -- for `search running` at each need of the loop
 pub ruleset running =
-    (loop-start, loop-known, loop-fits, loop-less, loop-sound, loop-change, loop-room, loop-next, operands-of, unknown-room, cut-room, unknown-done, cut-done, end-done, over-done, same-after, same-now, turned, needs)
+    (loop-start, turn-ready, further-on, loop-sound, loop-room, loop-next, unknown-room, cut-room, unknown-done, cut-done, end-done, over-done, same-after, same-now, needs)
 
 -- ---- the whole run; o is what the opening gave, b whether it was accepted, n the number of lines
 

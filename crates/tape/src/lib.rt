@@ -3,26 +3,32 @@ ghost use mathlib.Core.Path.{_≡_};
 ghost use mathlib.Core.Bool.{true};
 ghost use Prim.Native.Nat.{_+_, _*_, _≤_, _<_};
 ghost use lib.ListN.{length, set};
+ghost use Rattle.held.specs.Stores.{lentStore, Whole, Empty};
 ghost use Rattle.metadata.specs.Answers.{reported};
 ghost use Rattle.tape.specs.Tape.{written, Done, ran, ranOut, TapeClaims};
 ghost use Rattle.reading.specs.Reader.{readFrom, lines};
 ghost use Rattle.metadata.specs.Sound.{sound};
-use answers::command_answer;
-use answers::directory_after;
-use answers::marks_after_placement;
-use answers::marks_after_tablet;
-use answers::placements_after;
-use answers::retirements_after;
-use answers::tablets_after;
+use held::Held;
+use held::no_nodes;
+use held::no_placements;
+use held::no_retirements;
+use held::no_rows;
+use held::no_tablets;
+use held::store_of;
+use lent_rows::NodeRow;
+use lent_rows::PlacementRow;
+use lent_rows::RetirementRow;
+use lent_rows::TabletRow;
 use metadata::Answer;
 use metadata::Store;
-use metadata::is_applied;
-use metadata::report;
 use reading::Next;
 use reading::body_at;
 use reading::count_lines;
 use reading::next_at;
 use reading::open_tape;
+use reports::is_applied;
+use reports::report;
+use turns::take_turn;
 
 // A run of a whole tape: whether the opening was accepted, whether the list was too short for the answers, how many there are, and the store.
 pub struct Ran {
@@ -65,57 +71,80 @@ fn behind(place: usize, room: usize) -> usize
     place + 4
 }
 
-// Inner: `run` shows that the store is sound and that there is room for every answer.
-pub fn run_commands(s: Store, tape: &[u8], at: usize, out: &mut [u64]) -> Store
-    requires { ⌜ (sound s ≡ true) × (4 * lines (readFrom (now tape) at) ≤ length (now out)) ⌝ }
-    ensures { λ r. ⌜ Done (now (tape .entry)) s at (now (out .entry)) r (now (out .exit)) ⌝ }
+// Inner: `run` shows that what is held is a sound store with all rows lent, and that there is room for every answer.
+pub fn run_commands(
+    start: Held,
+    nodes: &mut [NodeRow],
+    tablets: &mut [TabletRow],
+    placements: &mut [PlacementRow],
+    retirements: &mut [RetirementRow],
+    tape: &[u8],
+    at: usize,
+    out: &mut [u64],
+) -> Held
+    requires { ⌜ (sound (lentStore start (now nodes) (now tablets) (now placements) (now retirements)) ≡ true) × Whole (now nodes) (now tablets) (now placements) (now retirements) × (4 * lines (readFrom (now tape) at) ≤ length (now out)) ⌝ }
+    ensures { λ r. ⌜ Done (now (tape .entry)) (lentStore start (now (nodes .entry)) (now (tablets .entry)) (now (placements .entry)) (now (retirements .entry))) at (now (out .entry)) (lentStore r (now (nodes .exit)) (now (tablets .exit)) (now (placements .exit)) (now (retirements .exit))) (now (out .exit)) × Whole (now (nodes .exit)) (now (tablets .exit)) (now (placements .exit)) (now (retirements .exit)) ⌝ }
 {
-    let mut directory = s.directory;
-    let mut catalog = s.catalog;
+    let mut held = start;
     let mut i = at;
     let mut place: usize = 0;
     while i < tape.len() {
         match next_at(tape, i) {
             Next::Whole(b, m) => {
-                let from = i + 1;
                 let next = behind(place, out.len());
-                let answer = command_answer(directory, catalog, b, tape, from);
+                let turn = take_turn(
+                    held,
+                    nodes,
+                    tablets,
+                    placements,
+                    retirements,
+                    b,
+                    tape,
+                    i + 1,
+                );
+                let answer = turn.answer;
                 write_answer(out, place, answer);
-                if is_applied(answer) {
-                    if b < 4 {
-                        directory = directory_after(directory, b, tape, from);
-                    } else if b == 4 {
-                        let tablets = tablets_after(catalog.tablets, b, tape, from);
-                        let marks = marks_after_tablet(catalog.marks, b, tape, from);
-                        catalog.tablets = tablets;
-                        catalog.marks = marks;
-                    } else if b == 5 {
-                        let placements = placements_after(catalog.placements, b, tape, from);
-                        let marks = marks_after_placement(catalog.marks, b, tape, from);
-                        catalog.placements = placements;
-                        catalog.marks = marks;
-                    } else if b == 6 {
-                        let retirements = retirements_after(catalog.retirements, b, tape, from);
-                        catalog.retirements = retirements;
-                    }
-                }
+                held = turn.held;
                 i = m;
                 place = next;
             }
             Next::Unknown(b) => {
                 write_answer(out, place, Answer::BadTape(1, b));
-                return Store { directory, catalog };
+                return held;
             }
             Next::Cut(b) => {
                 write_answer(out, place, Answer::BadTape(2, b));
-                return Store { directory, catalog };
+                return held;
             }
             Next::End => {
-                return Store { directory, catalog };
+                return held;
             }
         }
     }
-    Store { directory, catalog }
+    held
+}
+
+// Inner: the same, from an opened store, whose four large tables have no rows.
+fn run_opened(store: Store, tape: &[u8], at: usize, out: &mut [u64]) -> Store
+    requires { ⌜ (sound store ≡ true) × Empty store × (4 * lines (readFrom (now tape) at) ≤ length (now out)) ⌝ }
+    ensures { λ r. ⌜ Done (now (tape .entry)) store at (now (out .entry)) r (now (out .exit)) ⌝ }
+{
+    let mut nodes = no_nodes();
+    let mut tablets = no_tablets();
+    let mut placements = no_placements();
+    let mut retirements = no_retirements();
+    let held = no_rows(store);
+    let last = run_commands(
+        held,
+        &mut nodes,
+        &mut tablets,
+        &mut placements,
+        &mut retirements,
+        tape,
+        at,
+        out,
+    );
+    store_of(last, &nodes, &tablets, &placements, &retirements)
 }
 
 // A whole tape in memory: four numbers for each answer go to the lent list. Too short a list: nothing is run, and nothing is written.
@@ -136,7 +165,7 @@ fn run_whole(tape: &[u8], out: &mut [u64]) -> Ran
                 store,
             };
         }
-        let last = run_commands(store, tape, at, out);
+        let last = run_opened(store, tape, at, out);
         return Ran {
             opened: true,
             short: false,

@@ -1,237 +1,245 @@
 use Prim.Native.Nat.{_-_}
 use lib.ListN.{length}
-use Rattle.answers.specs.Turns.{storeOf}
-use Rattle.answers.proofs.Changing.{turned-directory, turned-tablets, turned-placements, turned-retirements}
-use Rattle.reading.proofs.Reading.{known-of, operands-of}
-use Rattle.chunks.proofs.Feeding.{Feeding, feeding, feed-change, feed-next}
+use borrow.Author.Needs.{needs}
+use Rattle.held.specs.Stores.{lentStore, Whole}
+use Rattle.turns.proofs.Places.{further-on}
+use Rattle.chunks.proofs.Feeding.{Feeding, feeding, feed-next, feed-long-after, feed-unknown}
 use Rattle.chunks.proofs.run_chunk.Statement.{statement}
 use Rattle.chunks.proofs.run_chunk.Tie as tie
 use Rattle.chunks.proofs.run_chunk.Reads as reads
 use Rattle.chunks.proofs.run_chunk.Lts as lts
+use Rattle.chunks.proofs.stands.Reads as stands-reads
 use Rattle.lines.proofs.put_line.Reads as put-line-reads
-use Rattle.metadata.proofs.is_applied.Reads as is-applied-reads
-use Rattle.metadata.proofs.report.Reads as report-reads
-use Rattle.std.proofs.num.wrapping_add_u64.Reads as wrapping-add-u64-reads
-use Rattle.answers.proofs.command_answer.Reads as command-answer-reads
-use Rattle.answers.proofs.directory_after.Reads as directory-after-reads
-use Rattle.answers.proofs.marks_after_placement.Reads as marks-after-placement-reads
-use Rattle.answers.proofs.marks_after_tablet.Reads as marks-after-tablet-reads
+use Rattle.reports.proofs.report.Reads as report-reads
 use Rattle.reading.proofs.next_at.Reads as next-at-reads
-use Rattle.answers.proofs.placements_after.Reads as placements-after-reads
-use Rattle.answers.proofs.retirements_after.Reads as retirements-after-reads
-use Rattle.answers.proofs.tablets_after.Reads as tablets-after-reads
+use Rattle.std.proofs.num.wrapping_add_u64.Reads as wrapping-add-u64-reads
+use Rattle.turns.proofs.take_turn.Reads as take-turn-reads
 
 abbrev Inv-loop : tie.InvT-loop
-Inv-loop chunk from first out₀ directory₀ catalog₀ at₀ line₀ used₀ out directory catalog at line used =
-    Feeding chunk (storeOf directory₀ catalog₀) from first out₀ (storeOf directory catalog) at line used out
+Inv-loop nodes₀ tablets₀ placements₀ retirements₀ chunk from first out₀ held₀ at₀ line₀ used₀ nodes tablets placements retirements out held at line used =
+    Feeding chunk (lentStore held₀ nodes₀ tablets₀ placements₀ retirements₀) from first out₀ (lentStore held nodes tablets placements retirements) at line used out × Whole nodes tablets placements retirements
 
 abbrev μ-loop : tie.MeasureT-loop
-μ-loop chunk from first out₀ directory₀ catalog₀ at₀ line₀ used₀ out directory catalog at line used =
+μ-loop nodes₀ tablets₀ placements₀ retirements₀ chunk from first out₀ held₀ at₀ line₀ used₀ nodes tablets placements retirements out held at line used =
     length chunk - at
 
--- src/lib.rt:44:5
+-- src/lib.rt:64:5
 loop-holds : tie.Need-loop-holds Inv-loop μ-loop
 loop-holds c = search feeding
 
--- src/lib.rt:45:12
+-- src/lib.rt:65:12
 sub-if1 : tie.Need-sub-if1 Inv-loop μ-loop
-sub-if1 c =
-    search (c .loop-test .taken, c .before .loop .inv, c .before .before .before .before .before .before .pre, feeding)
+sub-if1 c = search feeding
 
--- src/lib.rt:46:13
+-- src/lib.rt:66:13
+stands-requires : tie.Need-stands-requires Inv-loop μ-loop
+stands-requires c κs = search feeding
+
+-- src/lib.rt:66:13
 same-length : tie.Need-same-length Inv-loop μ-loop
-same-length c =
-    search (c .if1 .taken, c .before .loop-test .taken, c .before .before .loop .inv, c .before .before .before .before .before .before .before .pre, feeding)
+same-length c = search feeding
 
--- src/lib.rt:46:13
+-- src/lib.rt:66:13
+same-length-2 : tie.Need-same-length-2 Inv-loop μ-loop
+same-length-2 c = search feeding
+
+-- src/lib.rt:66:13
+same-length-3 : tie.Need-same-length-3 Inv-loop μ-loop
+same-length-3 c = search feeding
+
+-- src/lib.rt:66:13
+same-length-4 : tie.Need-same-length-4 Inv-loop μ-loop
+same-length-4 c = search feeding
+
+-- src/lib.rt:66:13
+same-length-5 : tie.Need-same-length-5 Inv-loop μ-loop
+same-length-5 c = search feeding
+
+-- src/lib.rt:66:13
 returns : tie.Need-returns Inv-loop μ-loop
-returns c =
-    search (c .if1 .taken, c .before .loop-test .taken, c .before .before .loop .inv, c .before .before .before .before .before .before .before .pre, feeding)
+returns c = search feeding
 
--- src/lib.rt:55:15
+-- src/lib.rt:68:15
 next-at-requires : tie.Need-next-at-requires Inv-loop μ-loop
 next-at-requires c κs = search feeding
 
--- src/lib.rt:56:25
+-- src/lib.rt:69:25
 enum-known-b : tie.Need-enum-known-b Inv-loop μ-loop
 enum-known-b c = search feeding
 
--- src/lib.rt:57:29
-add-place : tie.Need-add-place Inv-loop μ-loop
-add-place c = search feeding
+-- src/lib.rt:70:95
+add-take-turn : tie.Need-add-take-turn Inv-loop μ-loop
+add-take-turn c = search feeding
 
--- src/lib.rt:58:21
-command-answer-requires : tie.Need-command-answer-requires Inv-loop μ-loop
-command-answer-requires c κs =
-    search (c .known-told .given, c .before .b .given .1, c .before .before .match .keys1, c .before .before .before .next-at .ensures, c .before .before .before .before .if1 .left, c .before .before .before .before .before .loop-test .taken, c .before .before .before .before .before .before .loop .inv, c .before .before .before .before .before .before .before .before .before .before .before .pre, feeding)
+-- src/lib.rt:70:21
+take-turn-requires : tie.Need-take-turn-requires Inv-loop μ-loop
+take-turn-requires c κs = search feeding
 
--- src/lib.rt:59:57
+-- src/lib.rt:72:57
 report-requires : tie.Need-report-requires Inv-loop μ-loop
 report-requires c κs = search feeding
 
--- src/lib.rt:59:17
+-- src/lib.rt:72:17
 put-line-requires : tie.Need-put-line-requires Inv-loop μ-loop
-put-line-requires c κs =
-    search (c .report .ensures, c .before .before .command-answer .ensures, c .before .before .before .known-told .given, c .before .before .before .before .b .given .1, c .before .before .before .before .before .match .keys1, c .before .before .before .before .before .before .next-at .ensures, c .before .before .before .before .before .before .before .if1 .left, c .before .before .before .before .before .before .before .before .loop-test .taken, c .before .before .before .before .before .before .before .before .before .loop .inv, c .before .before .before .before .before .before .before .before .before .before .before .before .before .before .pre, feeding)
+put-line-requires c κs = search feeding
 
--- src/lib.rt:60:17
+-- src/lib.rt:73:17
 wrapping-add-u64-requires : tie.Need-wrapping-add-u64-requires Inv-loop μ-loop
 wrapping-add-u64-requires c κs = search feeding
 
--- src/lib.rt:61:20
-is-applied-requires : tie.Need-is-applied-requires Inv-loop μ-loop
-is-applied-requires c κs = search feeding
-
--- src/lib.rt:63:25
-directory-after-requires : tie.Need-directory-after-requires Inv-loop μ-loop
-directory-after-requires c κs =
-    feed-change _ _ _ _ _ _ _ _ _ _ (c .before .before .before .before .before .before .before .before .before .before .before .before .before .before .before .before .loop .inv) _ (c .before .before .before .before .before .before .before .before .before .before .before .before .before .next-at .ensures) _ _ (c .before .before .before .before .before .before .before .before .before .before .before .b .given .1) _ _ (c .before .before .before .before .before .before .before .before .before .command-answer .ensures) (c .before .before .is-applied .ensures) (c .before .if2 .taken) (c .if3 .taken)
-
--- src/lib.rt:65:29
-tablets-after-requires : tie.Need-tablets-after-requires Inv-loop μ-loop
-tablets-after-requires c κs =
-    operands-of _ _ _ _ 4 _ (c .before .before .before .before .before .before .before .before .before .before .before .before .before .before .next-at .ensures) (c .before .before .before .before .before .before .before .before .before .before .before .before .b .given .1) (c .if4 .taken)
-
--- src/lib.rt:66:29
-marks-after-tablet-requires : tie.Need-marks-after-tablet-requires Inv-loop μ-loop
-marks-after-tablet-requires c κs =
-    operands-of _ _ _ _ 4 _ (c .before .before .before .before .before .before .before .before .before .before .before .before .before .before .before .next-at .ensures) (c .before .before .before .before .before .before .before .before .before .before .before .before .before .b .given .1) (c .before .if4 .taken)
-
--- src/lib.rt:70:29
-placements-after-requires : tie.Need-placements-after-requires Inv-loop μ-loop
-placements-after-requires c κs =
-    operands-of _ _ _ _ 5 _ (c .before .before .before .before .before .before .before .before .before .before .before .before .before .before .before .next-at .ensures) (c .before .before .before .before .before .before .before .before .before .before .before .before .before .b .given .1) (c .if5 .taken)
-
--- src/lib.rt:71:29
-marks-after-placement-requires : tie.Need-marks-after-placement-requires Inv-loop μ-loop
-marks-after-placement-requires c κs =
-    operands-of _ _ _ _ 5 _ (c .before .before .before .before .before .before .before .before .before .before .before .before .before .before .before .before .next-at .ensures) (c .before .before .before .before .before .before .before .before .before .before .before .before .before .before .b .given .1) (c .before .if5 .taken)
-
--- src/lib.rt:75:29
-retirements-after-requires : tie.Need-retirements-after-requires Inv-loop μ-loop
-retirements-after-requires c κs =
-    operands-of _ _ _ _ 6 _ (c .before .before .before .before .before .before .before .before .before .before .before .before .before .before .before .before .next-at .ensures) (c .before .before .before .before .before .before .before .before .before .before .before .before .before .before .b .given .1) (c .if6 .taken)
-
--- src/lib.rt:44:5
+-- src/lib.rt:64:5
 loop-less : tie.Need-loop-less Inv-loop μ-loop
 loop-less c =
-    search (c .directory-after .ensures, c .before .if3 .taken, c .before .before .if2 .taken, c .before .before .before .is-applied .ensures, c .before .before .before .before .wrapping-add-u64 .ensures, c .before .before .before .before .before .before .out .given, c .before .before .before .before .before .before .before .put-line .ensures, c .before .before .before .before .before .before .before .before .report .ensures, c .before .before .before .before .before .before .before .before .before .before .command-answer .ensures, c .before .before .before .before .before .before .before .before .before .before .before .known-told .given, c .before .before .before .before .before .before .before .before .before .before .before .before .b .given .1, c .before .before .before .before .before .before .before .before .before .before .before .before .before .match .keys1, c .before .before .before .before .before .before .before .before .before .before .before .before .before .before .next-at .ensures, c .before .before .before .before .before .before .before .before .before .before .before .before .before .before .before .if1 .left, c .before .before .before .before .before .before .before .before .before .before .before .before .before .before .before .before .loop-test .taken, c .before .before .before .before .before .before .before .before .before .before .before .before .before .before .before .before .before .loop .inv, c .before .before .before .before .before .before .before .before .before .before .before .before .before .before .before .before .before .before .before .before .before .before .pre, feeding)
+    further-on _ _ _ _ _ (c .before .before .before .before .before .before .before .before .before .before .before .before .before .before .before .before .before .before .before .next-at .ensures) (c .before .before .before .before .before .before .before .before .before .before .before .before .before .before .before .before .before .b .given .1)
 
--- src/lib.rt:44:5
+-- src/lib.rt:64:5
 loop-again : tie.Need-loop-again Inv-loop μ-loop
-loop-again c =
-    feed-next _ _ _ _ _ _ _ _ _ _ (c .before .before .before .before .before .before .before .before .before .before .before .before .before .before .before .before .before .loop .inv) _ (c .before .before .before .before .before .before .before .before .before .before .before .before .before .before .next-at .ensures) _ _ (c .before .before .before .before .before .before .before .before .before .before .before .before .b .given .1) _ _ _ _ _ _ (turned-directory _ _ _ _ _ _ (c .before .before .before .before .before .before .before .before .before .before .command-answer .ensures) _ (c .before .before .before .is-applied .ensures) (c .before .before .before .before .before .before .before .before .before .before .before .before .before .before .before .before .before .loop .inv .sounds) (c .before .before .if2 .taken) _ (known-of _ _ _ _ _ (c .before .before .before .before .before .before .before .before .before .before .before .before .before .before .next-at .ensures) (c .before .before .before .before .before .before .before .before .before .before .before .before .b .given .1)) (c .before .if3 .taken) (c .directory-after .ensures)) (c .before .before .before .before .before .before .before .before .report .ensures) (c .before .before .before .before .before .before .before .put-line .ensures) (c .before .before .before .before .wrapping-add-u64 .ensures)
+loop-again c = (
+  feed-next _ _ _ _ _ _ _ _ _ _ (c .before .before .before .before .before .before .before .before .before .before .before .before .before .before .before .before .before .before .before .before .before .before .loop .inv .0) _ _ _ (c .before .before .before .before .before .before .before .before .before .before .before .before .before .before .before .before .before .before .before .next-at .ensures) (c .before .before .before .before .before .before .before .before .before .before .before .before .before .before .before .before .before .b .given .1) _ _ _ _ _ _
+      (c .before .before .before .before .before .before .before .before .before .before .before .take-turn .ensures .stepped) (c .before .before .before .before .before .report .ensures) (c .before .before .before .before .put-line .ensures) (c .before .wrapping-add-u64 .ensures),
+  c .before .before .before .before .before .before .before .before .before .before .before .take-turn .ensures .all,
+)
 
--- src/lib.rt:44:5
-loop-less-2 : tie.Need-loop-less-2 Inv-loop μ-loop
-loop-less-2 c =
-    search (c .marks-after-tablet .ensures, c .before .tablets-after .ensures, c .before .before .if4 .taken, c .before .before .before .if3 .left, c .before .before .before .before .if2 .taken, c .before .before .before .before .before .is-applied .ensures, c .before .before .before .before .before .before .wrapping-add-u64 .ensures, c .before .before .before .before .before .before .before .before .out .given, c .before .before .before .before .before .before .before .before .before .put-line .ensures, c .before .before .before .before .before .before .before .before .before .before .report .ensures, c .before .before .before .before .before .before .before .before .before .before .before .before .command-answer .ensures, c .before .before .before .before .before .before .before .before .before .before .before .before .before .known-told .given, c .before .before .before .before .before .before .before .before .before .before .before .before .before .before .b .given .1, c .before .before .before .before .before .before .before .before .before .before .before .before .before .before .before .match .keys1, c .before .before .before .before .before .before .before .before .before .before .before .before .before .before .before .before .next-at .ensures, c .before .before .before .before .before .before .before .before .before .before .before .before .before .before .before .before .before .if1 .left, c .before .before .before .before .before .before .before .before .before .before .before .before .before .before .before .before .before .before .loop-test .taken, c .before .before .before .before .before .before .before .before .before .before .before .before .before .before .before .before .before .before .before .loop .inv, c .before .before .before .before .before .before .before .before .before .before .before .before .before .before .before .before .before .before .before .before .before .before .before .before .pre, feeding)
-
--- src/lib.rt:44:5
-loop-again-2 : tie.Need-loop-again-2 Inv-loop μ-loop
-loop-again-2 c =
-    feed-next _ _ _ _ _ _ _ _ _ _ (c .before .before .before .before .before .before .before .before .before .before .before .before .before .before .before .before .before .before .before .loop .inv) _ (c .before .before .before .before .before .before .before .before .before .before .before .before .before .before .before .before .next-at .ensures) _ _ (c .before .before .before .before .before .before .before .before .before .before .before .before .before .before .b .given .1) _ _ _ _ _ _ (turned-tablets _ _ _ _ _ _ (c .before .before .before .before .before .before .before .before .before .before .before .before .command-answer .ensures) _ (c .before .before .before .before .before .is-applied .ensures) (c .before .before .before .before .before .before .before .before .before .before .before .before .before .before .before .before .before .before .before .loop .inv .sounds) (c .before .before .before .before .if2 .taken) _ _ (c .before .before .if4 .taken) (c .before .tablets-after .ensures) (c .marks-after-tablet .ensures)) (c .before .before .before .before .before .before .before .before .before .before .report .ensures) (c .before .before .before .before .before .before .before .before .before .put-line .ensures) (c .before .before .before .before .before .before .wrapping-add-u64 .ensures)
-
--- src/lib.rt:44:5
-loop-less-3 : tie.Need-loop-less-3 Inv-loop μ-loop
-loop-less-3 c =
-    search (c .marks-after-placement .ensures, c .before .placements-after .ensures, c .before .before .if5 .taken, c .before .before .before .if4 .left, c .before .before .before .before .if3 .left, c .before .before .before .before .before .if2 .taken, c .before .before .before .before .before .before .is-applied .ensures, c .before .before .before .before .before .before .before .wrapping-add-u64 .ensures, c .before .before .before .before .before .before .before .before .before .out .given, c .before .before .before .before .before .before .before .before .before .before .put-line .ensures, c .before .before .before .before .before .before .before .before .before .before .before .report .ensures, c .before .before .before .before .before .before .before .before .before .before .before .before .before .command-answer .ensures, c .before .before .before .before .before .before .before .before .before .before .before .before .before .before .known-told .given, c .before .before .before .before .before .before .before .before .before .before .before .before .before .before .before .b .given .1, c .before .before .before .before .before .before .before .before .before .before .before .before .before .before .before .before .match .keys1, c .before .before .before .before .before .before .before .before .before .before .before .before .before .before .before .before .before .next-at .ensures, c .before .before .before .before .before .before .before .before .before .before .before .before .before .before .before .before .before .before .if1 .left, c .before .before .before .before .before .before .before .before .before .before .before .before .before .before .before .before .before .before .before .loop-test .taken, c .before .before .before .before .before .before .before .before .before .before .before .before .before .before .before .before .before .before .before .before .loop .inv, c .before .before .before .before .before .before .before .before .before .before .before .before .before .before .before .before .before .before .before .before .before .before .before .before .before .pre, feeding)
-
--- src/lib.rt:44:5
-loop-again-3 : tie.Need-loop-again-3 Inv-loop μ-loop
-loop-again-3 c =
-    feed-next _ _ _ _ _ _ _ _ _ _ (c .before .before .before .before .before .before .before .before .before .before .before .before .before .before .before .before .before .before .before .before .loop .inv) _ (c .before .before .before .before .before .before .before .before .before .before .before .before .before .before .before .before .before .next-at .ensures) _ _ (c .before .before .before .before .before .before .before .before .before .before .before .before .before .before .before .b .given .1) _ _ _ _ _ _ (turned-placements _ _ _ _ _ _ (c .before .before .before .before .before .before .before .before .before .before .before .before .before .command-answer .ensures) _ (c .before .before .before .before .before .before .is-applied .ensures) (c .before .before .before .before .before .before .before .before .before .before .before .before .before .before .before .before .before .before .before .before .loop .inv .sounds) (c .before .before .before .before .before .if2 .taken) _ _ (c .before .before .if5 .taken) (c .before .placements-after .ensures) (c .marks-after-placement .ensures)) (c .before .before .before .before .before .before .before .before .before .before .before .report .ensures) (c .before .before .before .before .before .before .before .before .before .before .put-line .ensures) (c .before .before .before .before .before .before .before .wrapping-add-u64 .ensures)
-
--- src/lib.rt:44:5
-loop-less-4 : tie.Need-loop-less-4 Inv-loop μ-loop
-loop-less-4 c =
-    search (c .retirements-after .ensures, c .before .if6 .taken, c .before .before .if5 .left, c .before .before .before .if4 .left, c .before .before .before .before .if3 .left, c .before .before .before .before .before .if2 .taken, c .before .before .before .before .before .before .is-applied .ensures, c .before .before .before .before .before .before .before .wrapping-add-u64 .ensures, c .before .before .before .before .before .before .before .before .before .out .given, c .before .before .before .before .before .before .before .before .before .before .put-line .ensures, c .before .before .before .before .before .before .before .before .before .before .before .report .ensures, c .before .before .before .before .before .before .before .before .before .before .before .before .before .command-answer .ensures, c .before .before .before .before .before .before .before .before .before .before .before .before .before .before .known-told .given, c .before .before .before .before .before .before .before .before .before .before .before .before .before .before .before .b .given .1, c .before .before .before .before .before .before .before .before .before .before .before .before .before .before .before .before .match .keys1, c .before .before .before .before .before .before .before .before .before .before .before .before .before .before .before .before .before .next-at .ensures, c .before .before .before .before .before .before .before .before .before .before .before .before .before .before .before .before .before .before .if1 .left, c .before .before .before .before .before .before .before .before .before .before .before .before .before .before .before .before .before .before .before .loop-test .taken, c .before .before .before .before .before .before .before .before .before .before .before .before .before .before .before .before .before .before .before .before .loop .inv, c .before .before .before .before .before .before .before .before .before .before .before .before .before .before .before .before .before .before .before .before .before .before .before .before .before .pre, feeding)
-
--- src/lib.rt:44:5
-loop-again-4 : tie.Need-loop-again-4 Inv-loop μ-loop
-loop-again-4 c =
-    feed-next _ _ _ _ _ _ _ _ _ _ (c .before .before .before .before .before .before .before .before .before .before .before .before .before .before .before .before .before .before .before .before .loop .inv) _ (c .before .before .before .before .before .before .before .before .before .before .before .before .before .before .before .before .before .next-at .ensures) _ _ (c .before .before .before .before .before .before .before .before .before .before .before .before .before .before .before .b .given .1) _ _ _ _ _ _ (turned-retirements _ _ _ _ _ _ (c .before .before .before .before .before .before .before .before .before .before .before .before .before .command-answer .ensures) _ (c .before .before .before .before .before .before .is-applied .ensures) (c .before .before .before .before .before .before .before .before .before .before .before .before .before .before .before .before .before .before .before .before .loop .inv .sounds) (c .before .before .before .before .before .if2 .taken) _ (c .before .if6 .taken) (c .retirements-after .ensures)) (c .before .before .before .before .before .before .before .before .before .before .before .report .ensures) (c .before .before .before .before .before .before .before .before .before .before .put-line .ensures) (c .before .before .before .before .before .before .before .wrapping-add-u64 .ensures)
-
--- src/lib.rt:44:5
-loop-less-5 : tie.Need-loop-less-5 Inv-loop μ-loop
-loop-less-5 c =
-    search (c .if6 .left, c .before .if5 .left, c .before .before .if4 .left, c .before .before .before .if3 .left, c .before .before .before .before .if2 .taken, c .before .before .before .before .before .is-applied .ensures, c .before .before .before .before .before .before .wrapping-add-u64 .ensures, c .before .before .before .before .before .before .before .before .out .given, c .before .before .before .before .before .before .before .before .before .put-line .ensures, c .before .before .before .before .before .before .before .before .before .before .report .ensures, c .before .before .before .before .before .before .before .before .before .before .before .before .command-answer .ensures, c .before .before .before .before .before .before .before .before .before .before .before .before .before .known-told .given, c .before .before .before .before .before .before .before .before .before .before .before .before .before .before .b .given .1, c .before .before .before .before .before .before .before .before .before .before .before .before .before .before .before .match .keys1, c .before .before .before .before .before .before .before .before .before .before .before .before .before .before .before .before .next-at .ensures, c .before .before .before .before .before .before .before .before .before .before .before .before .before .before .before .before .before .if1 .left, c .before .before .before .before .before .before .before .before .before .before .before .before .before .before .before .before .before .before .loop-test .taken, c .before .before .before .before .before .before .before .before .before .before .before .before .before .before .before .before .before .before .before .loop .inv, c .before .before .before .before .before .before .before .before .before .before .before .before .before .before .before .before .before .before .before .before .before .before .before .before .pre, feeding)
-
--- src/lib.rt:44:5
-loop-again-5 : tie.Need-loop-again-5 Inv-loop μ-loop
-loop-again-5 c =
-    search (c .if6 .left, c .before .if5 .left, c .before .before .if4 .left, c .before .before .before .if3 .left, c .before .before .before .before .if2 .taken, c .before .before .before .before .before .is-applied .ensures, c .before .before .before .before .before .before .wrapping-add-u64 .ensures, c .before .before .before .before .before .before .before .before .out .given, c .before .before .before .before .before .before .before .before .before .put-line .ensures, c .before .before .before .before .before .before .before .before .before .before .report .ensures, c .before .before .before .before .before .before .before .before .before .before .before .before .command-answer .ensures, c .before .before .before .before .before .before .before .before .before .before .before .before .before .known-told .given, c .before .before .before .before .before .before .before .before .before .before .before .before .before .before .b .given .1, c .before .before .before .before .before .before .before .before .before .before .before .before .before .before .before .match .keys1, c .before .before .before .before .before .before .before .before .before .before .before .before .before .before .before .before .next-at .ensures, c .before .before .before .before .before .before .before .before .before .before .before .before .before .before .before .before .before .if1 .left, c .before .before .before .before .before .before .before .before .before .before .before .before .before .before .before .before .before .before .loop-test .taken, c .before .before .before .before .before .before .before .before .before .before .before .before .before .before .before .before .before .before .before .loop .inv, c .before .before .before .before .before .before .before .before .before .before .before .before .before .before .before .before .before .before .before .before .before .before .before .before .pre, feeding)
-
--- src/lib.rt:44:5
-loop-less-6 : tie.Need-loop-less-6 Inv-loop μ-loop
-loop-less-6 c =
-    search (c .if2 .left, c .before .is-applied .ensures, c .before .before .wrapping-add-u64 .ensures, c .before .before .before .before .out .given, c .before .before .before .before .before .put-line .ensures, c .before .before .before .before .before .before .report .ensures, c .before .before .before .before .before .before .before .before .command-answer .ensures, c .before .before .before .before .before .before .before .before .before .known-told .given, c .before .before .before .before .before .before .before .before .before .before .b .given .1, c .before .before .before .before .before .before .before .before .before .before .before .match .keys1, c .before .before .before .before .before .before .before .before .before .before .before .before .next-at .ensures, c .before .before .before .before .before .before .before .before .before .before .before .before .before .if1 .left, c .before .before .before .before .before .before .before .before .before .before .before .before .before .before .loop-test .taken, c .before .before .before .before .before .before .before .before .before .before .before .before .before .before .before .loop .inv, c .before .before .before .before .before .before .before .before .before .before .before .before .before .before .before .before .before .before .before .before .pre, feeding)
-
--- src/lib.rt:44:5
-loop-again-6 : tie.Need-loop-again-6 Inv-loop μ-loop
-loop-again-6 c =
-    search (c .if2 .left, c .before .is-applied .ensures, c .before .before .wrapping-add-u64 .ensures, c .before .before .before .before .out .given, c .before .before .before .before .before .put-line .ensures, c .before .before .before .before .before .before .report .ensures, c .before .before .before .before .before .before .before .before .command-answer .ensures, c .before .before .before .before .before .before .before .before .before .known-told .given, c .before .before .before .before .before .before .before .before .before .before .b .given .1, c .before .before .before .before .before .before .before .before .before .before .before .match .keys1, c .before .before .before .before .before .before .before .before .before .before .before .before .next-at .ensures, c .before .before .before .before .before .before .before .before .before .before .before .before .before .if1 .left, c .before .before .before .before .before .before .before .before .before .before .before .before .before .before .loop-test .taken, c .before .before .before .before .before .before .before .before .before .before .before .before .before .before .before .loop .inv, c .before .before .before .before .before .before .before .before .before .before .before .before .before .before .before .before .before .before .before .before .pre, feeding)
-
--- src/lib.rt:81:27
+-- src/lib.rt:77:27
 enum-known-b-2 : tie.Need-enum-known-b-2 Inv-loop μ-loop
 enum-known-b-2 c = search feeding
 
--- src/lib.rt:82:57
+-- src/lib.rt:78:57
 report-requires-2 : tie.Need-report-requires-2 Inv-loop μ-loop
 report-requires-2 c κs = search feeding
 
--- src/lib.rt:82:17
+-- src/lib.rt:78:17
 put-line-requires-2 : tie.Need-put-line-requires-2 Inv-loop μ-loop
-put-line-requires-2 c κs =
-    search (c .report2 .ensures, c .before .put-line-arg2 .given, c .before .before .known-told2 .given, c .before .before .before .b2 .given, c .before .before .before .before .match .keys2, c .before .before .before .before .before .next-at .ensures, c .before .before .before .before .before .before .if1 .left, c .before .before .before .before .before .before .before .loop-test .taken, c .before .before .before .before .before .before .before .before .loop .inv, c .before .before .before .before .before .before .before .before .before .before .before .before .before .pre, feeding)
+put-line-requires-2 c κs = search feeding
 
--- src/lib.rt:83:17
-same-length-2 : tie.Need-same-length-2 Inv-loop μ-loop
-same-length-2 c =
-    search (c .slice-known3 .given, c .before .out2 .given, c .before .before .put-line2 .ensures, c .before .before .before .report2 .ensures, c .before .before .before .before .put-line-arg2 .given, c .before .before .before .before .before .known-told2 .given, c .before .before .before .before .before .before .b2 .given, c .before .before .before .before .before .before .before .match .keys2, c .before .before .before .before .before .before .before .before .next-at .ensures, c .before .before .before .before .before .before .before .before .before .if1 .left, c .before .before .before .before .before .before .before .before .before .before .loop-test .taken, c .before .before .before .before .before .before .before .before .before .before .before .loop .inv, c .before .before .before .before .before .before .before .before .before .before .before .before .before .before .before .before .pre, feeding)
+-- src/lib.rt:79:17
+stands-requires-2 : tie.Need-stands-requires-2 Inv-loop μ-loop
+stands-requires-2 c κs = search feeding
 
--- src/lib.rt:83:17
+-- src/lib.rt:79:17
+same-length-6 : tie.Need-same-length-6 Inv-loop μ-loop
+same-length-6 c =
+    search (c .before .before .before .before .before .before .before .before .before .before .before .before .loop .inv .1, c .before .before .before .before .before .before .before .before .before .before .before .before .before .before .before .pre .1, needs)
+
+-- src/lib.rt:79:17
+same-length-7 : tie.Need-same-length-7 Inv-loop μ-loop
+same-length-7 c =
+    search (c .before .before .before .before .before .before .before .before .before .before .before .before .loop .inv .1, c .before .before .before .before .before .before .before .before .before .before .before .before .before .before .before .pre .1, needs)
+
+-- src/lib.rt:79:17
+same-length-8 : tie.Need-same-length-8 Inv-loop μ-loop
+same-length-8 c =
+    search (c .before .before .before .before .before .before .before .before .before .before .before .before .loop .inv .1, c .before .before .before .before .before .before .before .before .before .before .before .before .before .before .before .pre .1, needs)
+
+-- src/lib.rt:79:17
+same-length-9 : tie.Need-same-length-9 Inv-loop μ-loop
+same-length-9 c =
+    search (c .before .before .before .before .before .before .before .before .before .before .before .before .loop .inv .1, c .before .before .before .before .before .before .before .before .before .before .before .before .before .before .before .pre .1, needs)
+
+-- src/lib.rt:79:17
+same-length-10 : tie.Need-same-length-10 Inv-loop μ-loop
+same-length-10 c =
+    feed-long-after _ _ _ _ _ _ _ _ _ _ (c .before .before .before .before .before .before .before .before .before .before .before .before .loop .inv .0) _ _ _ (c .before .before .before .put-line2 .ensures)
+
+-- src/lib.rt:79:17
 returns-2 : tie.Need-returns-2 Inv-loop μ-loop
-returns-2 c =
-    search (c .slice-known3 .given, c .before .out2 .given, c .before .before .put-line2 .ensures, c .before .before .before .report2 .ensures, c .before .before .before .before .put-line-arg2 .given, c .before .before .before .before .before .known-told2 .given, c .before .before .before .before .before .before .b2 .given, c .before .before .before .before .before .before .before .match .keys2, c .before .before .before .before .before .before .before .before .next-at .ensures, c .before .before .before .before .before .before .before .before .before .if1 .left, c .before .before .before .before .before .before .before .before .before .before .loop-test .taken, c .before .before .before .before .before .before .before .before .before .before .before .loop .inv, c .before .before .before .before .before .before .before .before .before .before .before .before .before .before .before .before .pre, feeding)
+returns-2 c = (
+  feed-unknown _ _ _ _ _ _ _ _ _ _ _ _ _ _ (c .before .before .before .before .before .before .before .before .before .before .before .before .loop .inv .0) _ _ (c .before .before .before .before .before .before .before .before .before .next-at .ensures) _ _ _ _ (c .stands2 .ensures) (c .before .before .before .before .before .before .before .b2 .given .1)
+      (c .before .before .before .before .report2 .ensures) (c .before .before .before .put-line2 .ensures),
+  c .before .before .before .before .before .before .before .before .before .before .before .before .loop .inv .1,
+)
 
--- src/lib.rt:94:28
+-- src/lib.rt:82:17
 enum-told : tie.Need-enum-told Inv-loop μ-loop
 enum-told c = search feeding
 
--- src/lib.rt:93:17
-same-length-3 : tie.Need-same-length-3 Inv-loop μ-loop
-same-length-3 c =
-    search (c .enum-told .given, c .before .match .keys3, c .before .before .next-at .ensures, c .before .before .before .if1 .left, c .before .before .before .before .loop-test .taken, c .before .before .before .before .before .loop .inv, c .before .before .before .before .before .before .before .before .before .before .pre, feeding)
+-- src/lib.rt:82:17
+stands-requires-3 : tie.Need-stands-requires-3 Inv-loop μ-loop
+stands-requires-3 c κs = search feeding
 
--- src/lib.rt:93:17
+-- src/lib.rt:82:17
+same-length-11 : tie.Need-same-length-11 Inv-loop μ-loop
+same-length-11 c = search feeding
+
+-- src/lib.rt:82:17
+same-length-12 : tie.Need-same-length-12 Inv-loop μ-loop
+same-length-12 c = search feeding
+
+-- src/lib.rt:82:17
+same-length-13 : tie.Need-same-length-13 Inv-loop μ-loop
+same-length-13 c = search feeding
+
+-- src/lib.rt:82:17
+same-length-14 : tie.Need-same-length-14 Inv-loop μ-loop
+same-length-14 c = search feeding
+
+-- src/lib.rt:82:17
+same-length-15 : tie.Need-same-length-15 Inv-loop μ-loop
+same-length-15 c = search feeding
+
+-- src/lib.rt:82:17
 returns-3 : tie.Need-returns-3 Inv-loop μ-loop
-returns-3 c =
-    search (c .enum-told .given, c .before .match .keys3, c .before .before .next-at .ensures, c .before .before .before .if1 .left, c .before .before .before .before .loop-test .taken, c .before .before .before .before .before .loop .inv, c .before .before .before .before .before .before .before .before .before .before .pre, feeding)
+returns-3 c = search feeding
 
--- src/lib.rt:104:28
+-- src/lib.rt:85:17
 enum-told-2 : tie.Need-enum-told-2 Inv-loop μ-loop
 enum-told-2 c = search feeding
 
--- src/lib.rt:103:17
-same-length-4 : tie.Need-same-length-4 Inv-loop μ-loop
-same-length-4 c =
-    search (c .enum-told2 .given, c .before .match .keys4, c .before .before .next-at .ensures, c .before .before .before .if1 .left, c .before .before .before .before .loop-test .taken, c .before .before .before .before .before .loop .inv, c .before .before .before .before .before .before .before .before .before .before .pre, feeding)
+-- src/lib.rt:85:17
+stands-requires-4 : tie.Need-stands-requires-4 Inv-loop μ-loop
+stands-requires-4 c κs = search feeding
 
--- src/lib.rt:103:17
+-- src/lib.rt:85:17
+same-length-16 : tie.Need-same-length-16 Inv-loop μ-loop
+same-length-16 c = search feeding
+
+-- src/lib.rt:85:17
+same-length-17 : tie.Need-same-length-17 Inv-loop μ-loop
+same-length-17 c = search feeding
+
+-- src/lib.rt:85:17
+same-length-18 : tie.Need-same-length-18 Inv-loop μ-loop
+same-length-18 c = search feeding
+
+-- src/lib.rt:85:17
+same-length-19 : tie.Need-same-length-19 Inv-loop μ-loop
+same-length-19 c = search feeding
+
+-- src/lib.rt:85:17
+same-length-20 : tie.Need-same-length-20 Inv-loop μ-loop
+same-length-20 c = search feeding
+
+-- src/lib.rt:85:17
 returns-4 : tie.Need-returns-4 Inv-loop μ-loop
-returns-4 c =
-    search (c .enum-told2 .given, c .before .match .keys4, c .before .before .next-at .ensures, c .before .before .before .if1 .left, c .before .before .before .before .loop-test .taken, c .before .before .before .before .before .loop .inv, c .before .before .before .before .before .before .before .before .before .before .pre, feeding)
+returns-4 c = search feeding
 
--- src/lib.rt:35:1
-same-length-5 : tie.Need-same-length-5 Inv-loop μ-loop
-same-length-5 c =
-    search (c .loop-test .left, c .before .loop .inv, c .before .before .before .before .before .before .pre, feeding)
+-- src/lib.rt:89:5
+stands-requires-5 : tie.Need-stands-requires-5 Inv-loop μ-loop
+stands-requires-5 c κs = search feeding
 
--- src/lib.rt:35:1
+-- src/lib.rt:46:1
+same-length-21 : tie.Need-same-length-21 Inv-loop μ-loop
+same-length-21 c = search feeding
+
+-- src/lib.rt:46:1
+same-length-22 : tie.Need-same-length-22 Inv-loop μ-loop
+same-length-22 c = search feeding
+
+-- src/lib.rt:46:1
+same-length-23 : tie.Need-same-length-23 Inv-loop μ-loop
+same-length-23 c = search feeding
+
+-- src/lib.rt:46:1
+same-length-24 : tie.Need-same-length-24 Inv-loop μ-loop
+same-length-24 c = search feeding
+
+-- src/lib.rt:46:1
+same-length-25 : tie.Need-same-length-25 Inv-loop μ-loop
+same-length-25 c = search feeding
+
+-- src/lib.rt:46:1
 returns-5 : tie.Need-returns-5 Inv-loop μ-loop
-returns-5 c =
-    search (c .loop-test .left, c .before .loop .inv, c .before .before .before .before .before .before .pre, feeding)
+returns-5 c = search feeding
 
 pub run-chunk-spec : {M : Type 1} → statement M
 run-chunk-spec =
@@ -241,44 +249,52 @@ run-chunk-spec =
     μ-loop
     loop-holds
     sub-if1
+    stands-requires
     same-length
+    same-length-2
+    same-length-3
+    same-length-4
+    same-length-5
     returns
     next-at-requires
     enum-known-b
-    add-place
-    command-answer-requires
+    add-take-turn
+    take-turn-requires
     report-requires
     put-line-requires
     wrapping-add-u64-requires
-    is-applied-requires
-    directory-after-requires
-    tablets-after-requires
-    marks-after-tablet-requires
-    placements-after-requires
-    marks-after-placement-requires
-    retirements-after-requires
     loop-less
     loop-again
-    loop-less-2
-    loop-again-2
-    loop-less-3
-    loop-again-3
-    loop-less-4
-    loop-again-4
-    loop-less-5
-    loop-again-5
-    loop-less-6
-    loop-again-6
     enum-known-b-2
     report-requires-2
     put-line-requires-2
-    same-length-2
+    stands-requires-2
+    same-length-6
+    same-length-7
+    same-length-8
+    same-length-9
+    same-length-10
     returns-2
     enum-told
-    same-length-3
+    stands-requires-3
+    same-length-11
+    same-length-12
+    same-length-13
+    same-length-14
+    same-length-15
     returns-3
     enum-told-2
-    same-length-4
+    stands-requires-4
+    same-length-16
+    same-length-17
+    same-length-18
+    same-length-19
+    same-length-20
     returns-4
-    same-length-5
+    stands-requires-5
+    same-length-21
+    same-length-22
+    same-length-23
+    same-length-24
+    same-length-25
     returns-5)

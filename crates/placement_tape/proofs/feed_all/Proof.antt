@@ -7,36 +7,70 @@ use Rattle.placement_tape.proofs.feed_all.Lts as lts
 use Rattle.placement_tape.proofs.turn.Reads as turn-reads
 
 abbrev Inv-loop : tie.InvT-loop
-Inv-loop f₀ turns₀ f turns = GoodFeed f
+Inv-loop nodes₀ tablets₀ placements₀ retirements₀ f₀ turns₀ nodes tablets placements retirements f turns =
+    GoodFeed f nodes tablets placements retirements
 
 abbrev μ-loop : tie.MeasureT-loop
-μ-loop f₀ turns₀ f turns = turns
+μ-loop nodes₀ tablets₀ placements₀ retirements₀ f₀ turns₀ nodes tablets placements retirements f turns =
+    turns
 
--- src/main.rt:164:5
+-- src/main.rt:190:5
 loop-holds : tie.Need-loop-holds Inv-loop μ-loop
 loop-holds c = search turns
 
--- src/main.rt:167:13
+-- src/main.rt:193:13
+same-length : tie.Need-same-length Inv-loop μ-loop
+same-length c = search turns
+
+-- src/main.rt:193:13
+same-length-2 : tie.Need-same-length-2 Inv-loop μ-loop
+same-length-2 c = search turns
+
+-- src/main.rt:193:13
+same-length-3 : tie.Need-same-length-3 Inv-loop μ-loop
+same-length-3 c = search turns
+
+-- src/main.rt:193:13
+same-length-4 : tie.Need-same-length-4 Inv-loop μ-loop
+same-length-4 c = search turns
+
+-- src/main.rt:193:13
 returns : tie.Need-returns Inv-loop μ-loop
 returns c = search turns
 
--- src/main.rt:170:9
+-- src/main.rt:196:9
 turn-requires : tie.Need-turn-requires Inv-loop μ-loop
 turn-requires c κs = search turns
 
--- src/main.rt:171:9
+-- src/main.rt:207:9
 sub-turns : tie.Need-sub-turns Inv-loop μ-loop
 sub-turns c = search turns
 
--- src/main.rt:164:5
+-- src/main.rt:190:5
 loop-less : tie.Need-loop-less Inv-loop μ-loop
 loop-less c = search turns
 
--- src/main.rt:164:5
+-- src/main.rt:190:5
 loop-again : tie.Need-loop-again Inv-loop μ-loop
 loop-again c = search turns
 
--- src/main.rt:159:1
+-- src/main.rt:178:1
+same-length-5 : tie.Need-same-length-5 Inv-loop μ-loop
+same-length-5 c = search turns
+
+-- src/main.rt:178:1
+same-length-6 : tie.Need-same-length-6 Inv-loop μ-loop
+same-length-6 c = search turns
+
+-- src/main.rt:178:1
+same-length-7 : tie.Need-same-length-7 Inv-loop μ-loop
+same-length-7 c = search turns
+
+-- src/main.rt:178:1
+same-length-8 : tie.Need-same-length-8 Inv-loop μ-loop
+same-length-8 c = search turns
+
+-- src/main.rt:178:1
 returns-2 : tie.Need-returns-2 Inv-loop μ-loop
 returns-2 c = search turns
 
@@ -47,9 +81,17 @@ feed-all-spec =
     Inv-loop
     μ-loop
     loop-holds
+    same-length
+    same-length-2
+    same-length-3
+    same-length-4
     returns
     turn-requires
     sub-turns
     loop-less
     loop-again
+    same-length-5
+    same-length-6
+    same-length-7
+    same-length-8
     returns-2)

@@ -4,7 +4,7 @@ use Rattle.steps.proofs.marks_after_placement.Statement.{statement}
 use Rattle.steps.proofs.marks_after_placement.Tie as tie
 use Rattle.steps.proofs.marks_after_placement.Reads as reads
 use Rattle.steps.proofs.marks_after_placement.Lts as lts
-use Rattle.metadata.proofs.is_applied.Reads as is-applied-reads
+use Rattle.reports.proofs.is_applied.Reads as is-applied-reads
 use Rattle.marks.proofs.raised_by_placement.Reads as raised-by-placement-reads
 
 -- src/lib.rt:244:8

@@ -5,7 +5,7 @@ use Rattle.steps.proofs.marks_after_tablet.Statement.{statement}
 use Rattle.steps.proofs.marks_after_tablet.Tie as tie
 use Rattle.steps.proofs.marks_after_tablet.Reads as reads
 use Rattle.steps.proofs.marks_after_tablet.Lts as lts
-use Rattle.metadata.proofs.is_applied.Reads as is-applied-reads
+use Rattle.reports.proofs.is_applied.Reads as is-applied-reads
 use Rattle.marks.proofs.raised_by_tablet.Reads as raised-by-tablet-reads
 
 -- src/lib.rt:79:8

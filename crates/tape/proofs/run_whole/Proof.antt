@@ -1,15 +1,16 @@
 use Rattle.reading.proofs.Opened.{opened-is-sound}
+use Rattle.turns.proofs.Begun.{opened-empty}
 use Rattle.tape.proofs.Loop.{answers-fit, short-run, short-out, whole-run, whole-out, short-refusal, short-refusal-out, refusal-run, refusal-out}
 use borrow.Author.Needs.{needs}
 use Rattle.tape.proofs.run_whole.Statement.{statement}
 use Rattle.tape.proofs.run_whole.Tie as tie
 use Rattle.tape.proofs.run_whole.Reads as reads
 use Rattle.tape.proofs.run_whole.Lts as lts
-use Rattle.metadata.proofs.is_applied.Reads as is-applied-reads
+use Rattle.reports.proofs.is_applied.Reads as is-applied-reads
 use Rattle.reading.proofs.body_at.Reads as body-at-reads
 use Rattle.reading.proofs.count_lines.Reads as count-lines-reads
 use Rattle.reading.proofs.open_tape.Reads as open-tape-reads
-use Rattle.tape.proofs.run_commands.Reads as run-commands-reads
+use Rattle.tape.proofs.run_opened.Reads as run-opened-reads
 use Rattle.tape.proofs.write_answer.Reads as write-answer-reads
 
 -- src/lib.rt:250:9
@@ -33,8 +34,8 @@ returns : tie.Need-returns
 returns c = search (needs, short-run, short-out)
 
 -- src/lib.rt:264:13
-run-commands-requires : tie.Need-run-commands-requires
-run-commands-requires c κs = search (needs, opened-is-sound, answers-fit)
+run-opened-requires : tie.Need-run-opened-requires
+run-opened-requires c κs = search (needs, opened-is-sound, opened-empty, answers-fit)
 
 -- src/lib.rt:265:9
 same-length : tie.Need-same-length
@@ -69,7 +70,7 @@ run-whole-spec =
     body-at-requires
     count-lines-requires
     returns
-    run-commands-requires
+    run-opened-requires
     same-length
     returns-2
     returns-3

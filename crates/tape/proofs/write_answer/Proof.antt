@@ -5,7 +5,7 @@ use Rattle.tape.proofs.write_answer.Statement.{statement}
 use Rattle.tape.proofs.write_answer.Tie as tie
 use Rattle.tape.proofs.write_answer.Reads as reads
 use Rattle.tape.proofs.write_answer.Lts as lts
-use Rattle.metadata.proofs.report.Reads as report-reads
+use Rattle.reports.proofs.report.Reads as report-reads
 use Rattle.tape.proofs.put.Reads as put-reads
 use Rattle.tape.proofs.wide.Reads as wide-reads
 
