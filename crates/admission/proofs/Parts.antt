@@ -1,7 +1,7 @@
 -- What the parts of an admitted partition and of an admitted opening say of the whole. Assumes nothing.
 use Prim.Native.Nat.{ℕ, _<_, _≤_}
 use native.Mathlib.Omega.{arith}
-use mathlib.Core.Path.{_≡_, refl, sym, _∙_}
+use mathlib.Core.Path.{_≡_, refl}
 use mathlib.Core.Bool.{Bool, true, false, not, cond, _&&_, _||_}
 use mathlib.Core.List.{List}
 use lib.Dec.{leb}

@@ -21,7 +21,7 @@ use Rattle.metadata.specs.declared.NodeDescriptor.{NodeDescriptor}
 use Rattle.metadata.specs.declared.NodeId.{NodeId}
 use Rattle.metadata.specs.declared.Nodes.{Nodes}
 use Rattle.metadata.specs.declared.TabletDescriptor.{TabletDescriptor}
-use Rattle.placements.specs.Copies.{placementsPut}
+use Rattle.rows.specs.Results.{placementsPut}
 use Rattle.rows.specs.Results.{under, nodesWith, nodesSet, tabletsWith, retirementsWith}
 
 -- ---- the nodes, where f is what the search by id found

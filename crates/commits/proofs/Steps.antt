@@ -8,7 +8,7 @@ use lib.Dec.{leb}
 use lib.ListN.{length, getD}
 use borrow.Author.Needs.{needs}
 use borrow.Author.Tests.{leb-true}
-use Rattle.commits.specs.Left.{nodesMoved, nodesRegistered, named, counted, NodesLeft, TabletsLeft, PlacementsLeft, RetirementsLeft, Change, Left}
+use Rattle.commits.specs.Left.{nodesMoved, nodesRegistered, named, NodesLeft, TabletsLeft, PlacementsLeft, RetirementsLeft, Change, Left}
 use Rattle.decode.specs.Decode.{numberAt, byteAt, nameAt, nodeAt, tabletAt, placementAt, retirementAt}
 use Rattle.held.specs.Stores.{lentStore, Whole}
 use Rattle.held.specs.declared.Held.{Held}
@@ -17,8 +17,8 @@ use Rattle.laws.specs.Keyed.{has}
 use Rattle.laws.specs.Rows.{findIndex, onFound}
 use Rattle.laws.specs.declared.Found.{Found}
 use Rattle.laws.specs.declared.Found.the-variants.{At, Nothing}
-use Rattle.lent_rows.specs.Lent.{lentNodes, lentTablets, lentPlacements, lentRetirements}
-use Rattle.lifecycle.proofs.Changes.{never-missing, row-moved, applied-known}
+use Rattle.lent_rows.specs.Lent.{lentNodes}
+use Rattle.step_laws.proofs.Moved.{never-missing, row-moved, applied-known}
 use Rattle.metadata.specs.Answers.{isApplied}
 use Rattle.metadata.specs.Commands.{naming, registering, lifecycle, tablet, placement, retirement}
 use Rattle.metadata.specs.Labels.{judgePicking}
@@ -28,41 +28,20 @@ use Rattle.metadata.specs.Rooms.{nodeRoom}
 use Rattle.metadata.specs.Sound.{soundTable, sound}
 use Rattle.metadata.specs.Tables.{nodeKey, isZeroNode, zeroNode}
 use Rattle.metadata.specs.declared.Answered.{Answered}
-use Rattle.metadata.specs.declared.MetadataAllocatorState.{MetadataAllocatorState}
 use Rattle.metadata.specs.declared.NodeDescriptor.{NodeDescriptor}
 use Rattle.metadata.specs.declared.NodeId.{NodeId}
 use Rattle.metadata.specs.declared.Nodes.{Nodes}
-use Rattle.metadata.specs.declared.OptionalName.{OptionalName}
 use Rattle.metadata.specs.declared.Placements.{Placements}
-use Rattle.metadata.specs.declared.Retirements.{Retirements}
 use Rattle.metadata.specs.declared.Store.{Store}
 use Rattle.metadata.specs.declared.Tablets.{Tablets}
-use Rattle.placements.proofs.Applied.{applied-put}
-use Rattle.placements.specs.Copies.{placementsPut}
+use Rattle.step_laws.proofs.Placed.{applied-put}
+use Rattle.rows.specs.Results.{placementsPut}
 use Rattle.reading.specs.Reader.{isCommand, sizeOf, commandAt}
-use Rattle.registering.proofs.Changes.{row-new, row-goes-on, applied-room}
-use Rattle.retirements.proofs.Applied.{retirement-put}
+use Rattle.step_laws.proofs.Registered.{row-new, row-goes-on, applied-room}
+use Rattle.step_laws.proofs.Retired.{retirement-put}
 use Rattle.rows.specs.Results.{under, nodesWith, nodesSet, tabletsWith, retirementsWith}
-use Rattle.soundness.proofs.Steps.{
-  picking-decided,
-  withName,
-  withNodes,
-  withTablets,
-  withPlacements,
-  withRetirements,
-  named-step,
-  registered-step,
-  moved-step,
-  tablet-step,
-  placement-step,
-  retirement-step,
-  picked-step,
-  sound-nodes,
-  sound-tablets,
-  sound-placements,
-  sound-retirements,
-}
-use Rattle.tablets.proofs.Decided.{tablet-put}
+use Rattle.step_laws.proofs.Steps.{withName, withNodes, withTablets, withPlacements, withRetirements, named-step, registered-step, moved-step, tablet-step, placement-step, retirement-step, picked-step, sound-nodes, sound-tablets, sound-placements, sound-retirements}
+use Rattle.step_laws.proofs.Decided.{tablet-put}
 
 -- ---- the nodes of a sound table
 

@@ -21,7 +21,7 @@ use Rattle.metadata.specs.declared.Nodes.{Nodes}
 use Rattle.metadata.specs.declared.OptionalName.{OptionalName}
 use Rattle.metadata.specs.declared.RetiredReplicaLifetime.{RetiredReplicaLifetime}
 use Rattle.metadata.specs.declared.TabletDescriptor.{TabletDescriptor}
-use Rattle.placements.specs.Copies.{placementsPut}
+use Rattle.rows.specs.Results.{placementsPut}
 use Rattle.reading.specs.Reader.{isCommand, sizeOf, commandAt}
 use Rattle.rows.specs.Results.{under, nodesWith, nodesSet, tabletsWith, retirementsWith}
 

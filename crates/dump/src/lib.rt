@@ -1,35 +1,13 @@
 // The final tables and marks as text in a lent slice: a line for each row, by its place among all lines.
 ghost use mathlib.Core.Path.{_≡_};
-ghost use Prim.Native.Nat.{_+_, _≤_};
+ghost use Prim.Native.Nat.{_≤_};
 ghost use mathlib.Core.List.{[]};
 ghost use lib.ListN.{length, getD};
 ghost use Rattle.lines.specs.Lines.{Appended};
 ghost use Rattle.metadata.specs.Model.{viewNodes, viewTables, viewTablets, viewPlacements, viewRetirements};
-ghost use Rattle.dump.specs.Dump.{
-  nameLine,
-  marksLine,
-  nextField,
-  nextLine,
-  pickedText,
-  pickLine,
-  lineRoom,
-  fromMarks,
-  fromRetired,
-  fromPlacements,
-  fromTablets,
-  fromTables,
-  fromNodes,
-  dumpLines,
-};
-use labels::select_initial_placement;
-use lines::put_byte;
-use metadata::INITIAL_REPLICATION_FACTOR;
-use metadata::InitialPlacement;
-use metadata::MetadataAllocatorState;
+ghost use Rattle.dump.specs.Dump.{lineRoom, fromMarks, fromRetired, fromPlacements, fromTablets, fromTables, fromNodes, dumpLines};
 use metadata::NODE_ROOM;
-use metadata::NextReplicaId;
 use metadata::Nodes;
-use metadata::OptionalName;
 use metadata::Placements;
 use metadata::RETIREMENT_ROOM;
 use metadata::Retirements;
@@ -39,100 +17,25 @@ use metadata::TABLET_ROOM;
 use metadata::Tables;
 use metadata::Tablets;
 use node_rows::node_at;
-use pieces::put_field;
-use pieces::put_optional_name;
-use pieces::put_three;
-use pieces::put_word;
+use picking::select_initial_placement;
 use pieces::used;
+use placement_lines::put_placement;
 use placement_rows::placement_at;
 use retirement_rows::retirement_at;
 use row_lines::put_node;
-use row_lines::put_placement;
-use row_lines::put_policy;
 use row_lines::put_retired;
 use row_lines::put_table;
 use row_lines::put_tablet;
+use store_lines::put_cluster;
+use store_lines::put_marks;
+use store_lines::put_next;
+use store_lines::put_pick;
 use table_rows::table_at;
 use tablet_rows::tablet_at;
 use tablets::is_complete;
 
 // Room for every line: the longest, a placement line, has at most 811 bytes. specs/Dump.antt names it once more.
 pub const LINE_ROOM: usize = 1024;
-
-fn put_cluster(out: &mut [u8], at: usize, t: OptionalName) -> usize
-    requires { ⌜ at + 103 ≤ length (now out) ⌝ }
-    ensures { λ r. ⌜ (Appended (nameLine t) (now (out .entry)) at (now (out .exit)) r) × (r ≤ at + 103) ⌝ }
-{
-    let word = put_word(out, at, b"name");
-    let name = put_optional_name(out, word, t);
-    put_byte(out, name, 10)
-}
-
-fn put_marks(out: &mut [u8], at: usize, m: MetadataAllocatorState) -> usize
-    requires { ⌜ at + 90 ≤ length (now out) ⌝ }
-    ensures { λ r. ⌜ (Appended (marksLine m) (now (out .entry)) at (now (out .exit)) r) × (r ≤ at + 90) ⌝ }
-{
-    let word = put_word(out, at, b"marks");
-    let ids = put_three(
-        out,
-        word,
-        m.max_table_id,
-        m.max_tablet_id,
-        m.max_raft_group_id,
-    );
-    let replica = put_field(out, ids, m.max_replica_id);
-    put_byte(out, replica, 10)
-}
-
-fn put_next_id(out: &mut [u8], at: usize, next: NextReplicaId) -> usize
-    requires { ⌜ at + 21 ≤ length (now out) ⌝ }
-    ensures { λ r. ⌜ (Appended (nextField next) (now (out .entry)) at (now (out .exit)) r) × (r ≤ at + 21) ⌝ }
-{
-    match next {
-        NextReplicaId::Next(id) => put_field(out, at, id.0),
-        NextReplicaId::Exhausted => put_word(out, at, b" -"),
-    }
-}
-
-fn put_next(out: &mut [u8], at: usize, m: MetadataAllocatorState) -> usize
-    requires { ⌜ at + 34 ≤ length (now out) ⌝ }
-    ensures { λ r. ⌜ (Appended (nextLine m) (now (out .entry)) at (now (out .exit)) r) × (r ≤ at + 34) ⌝ }
-{
-    let word = put_word(out, at, b"next replica");
-    let id = put_next_id(out, word, m.next_replica_id());
-    put_byte(out, id, 10)
-}
-
-fn put_picked(out: &mut [u8], at: usize, p: InitialPlacement) -> usize
-    requires { ⌜ at + 63 ≤ length (now out) ⌝ }
-    ensures { λ r. ⌜ (Appended (pickedText p) (now (out .entry)) at (now (out .exit)) r) × (r ≤ at + 63) ⌝ }
-{
-    let ids = p.nodes;
-    let n = used(p.node_count as usize, INITIAL_REPLICATION_FACTOR);
-    let mut next = at;
-    let mut i = 0;
-    while i < n {
-        next = put_field(out, next, ids[i].0);
-        i += 1;
-    }
-    next
-}
-
-fn put_pick(out: &mut [u8], at: usize, p: InitialPlacement) -> usize
-    requires { ⌜ at + 251 ≤ length (now out) ⌝ }
-    ensures { λ r. ⌜ (Appended (pickLine p) (now (out .entry)) at (now (out .exit)) r) × (r ≤ at + 251) ⌝ }
-{
-    let word = put_word(out, at, b"pick");
-    if p.node_count == 0 {
-        let none = put_word(out, word, b" -");
-        return put_byte(out, none, 10);
-    }
-    let nodes = put_picked(out, word, p);
-    let q = p.placement_policy;
-    let policy = put_policy(out, nodes, q);
-    let leaders = put_field(out, policy, q.preferred_leader_count as u64);
-    put_byte(out, leaders, 10)
-}
 
 // ---- how many rows of each table are in use
 

@@ -31,10 +31,10 @@ use metadata::Store;
 use metadata::TABLET_ROOM;
 use metadata::Tables;
 use metadata::Tablets;
-use records::zero_node;
-use records::zero_placement;
-use records::zero_retirement;
-use records::zero_tablet;
+use zeros::zero_node;
+use zeros::zero_placement;
+use zeros::zero_retirement;
+use zeros::zero_tablet;
 
 // The name, the tables and the marks, and how many rows of each lent table are in use.
 pub struct Held {

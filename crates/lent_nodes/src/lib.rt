@@ -19,9 +19,9 @@ use lent_rows::node_key;
 use lent_rows::node_row;
 use metadata::NODE_ROOM;
 use metadata::NodeId;
-use records::zero_node;
 use rows::NodeFound;
 use rows::place;
+use zeros::zero_node;
 
 fn node_is(rows: &[NodeRow], i: usize, id: NodeId) -> bool
     requires { ⌜ i < length (now rows) ⌝ }

@@ -19,9 +19,9 @@ use lent_rows::placement_key;
 use lent_rows::placement_row;
 use metadata::TABLET_ROOM;
 use metadata::TabletId;
-use records::zero_placement;
 use rows::PlacementFound;
 use rows::place;
+use zeros::zero_placement;
 
 fn placement_is(rows: &[PlacementRow], i: usize, id: TabletId) -> bool
     requires { ⌜ i < length (now rows) ⌝ }

@@ -20,9 +20,9 @@ use lent_rows::retirement_row;
 use metadata::RETIREMENT_ROOM;
 use metadata::RaftGroupId;
 use metadata::ReplicaId;
-use records::zero_retirement;
 use rows::RetirementFound;
 use rows::place;
+use zeros::zero_retirement;
 
 fn retirement_is(rows: &[RetirementRow], i: usize, group: RaftGroupId, replica: ReplicaId) -> bool
     requires { ⌜ i < length (now rows) ⌝ }

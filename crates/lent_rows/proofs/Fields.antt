@@ -1,9 +1,9 @@
 -- A record read off other bytes that are the same where it stands. Assumes nothing.
 use Prim.Native.Nat.{ℕ, zero, suc, _+_, _*_, _≤_, _<_}
-use native.Mathlib.Nat.{le-of-suc-le-suc, not-suc-le-zero, mul-suc}
+use native.Mathlib.Nat.{mul-suc}
 use native.Mathlib.Omega.{arith}
 use mathlib.Core.Path.{_≡_, refl, sym, ap, ap₂, _∙_}
-use mathlib.Core.Bool.{Bool, true, false, cond}
+use mathlib.Core.Bool.{true, false, cond}
 use mathlib.Core.List.{List, [], _∷_, map}
 use lib.Dec.{eqb}
 use lib.ListN.{length, getD, take, drop, set}
@@ -11,14 +11,8 @@ use lib.Seq.{take-take, drop-drop, take-set-le, getD-set-same}
 use Rattle.decode.specs.Decode.{little, fieldAt, numberAt, byteAt, nameAt, labelAt, keyAt, optionalAt, nodeAt, tabletAt, replicaAt, listAt, nodeIdAt, placementAt, retirementAt}
 use Rattle.metadata.specs.Nodes.{withLifecycle}
 use Rattle.metadata.specs.Rooms.{nameWidth, labelWidth, keyWidth, replicaRoom}
-use Rattle.metadata.specs.declared.DesiredReplica.{DesiredReplica}
 use Rattle.metadata.specs.declared.DesiredReplicaPlacement.{DesiredReplicaPlacement}
-use Rattle.metadata.specs.declared.Key.{Key}
-use Rattle.metadata.specs.declared.Label.{Label}
-use Rattle.metadata.specs.declared.Name.{Name}
 use Rattle.metadata.specs.declared.NodeDescriptor.{NodeDescriptor}
-use Rattle.metadata.specs.declared.NodeId.{NodeId}
-use Rattle.metadata.specs.declared.OptionalLabel.{OptionalLabel}
 use Rattle.metadata.specs.declared.RetiredReplicaLifetime.{RetiredReplicaLifetime}
 use Rattle.metadata.specs.declared.TabletDescriptor.{TabletDescriptor}
 use Rattle.metadata.specs.Tables.{blankNode, blankTablet, blankPlacement, zeroRetirement}

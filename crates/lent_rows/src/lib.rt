@@ -38,7 +38,7 @@ pub fn node_row(rows: &[NodeRow], i: usize) -> NodeDescriptor
     requires { ⌜ i < length (now rows) ⌝ }
     ensures { λ r. ⌜ r ≡ getD (map nodeRow (now (rows .entry))) i blankNode ⌝ }
 {
-    decode::node_at(&rows[i][..], 0)
+    decode_rows::node_at(&rows[i][..], 0)
 }
 
 pub fn node_key(rows: &[NodeRow], i: usize) -> u64
@@ -92,7 +92,7 @@ pub fn tablet_row(rows: &[TabletRow], i: usize) -> TabletDescriptor
     requires { ⌜ i < length (now rows) ⌝ }
     ensures { λ r. ⌜ r ≡ getD (map tabletRow (now (rows .entry))) i blankTablet ⌝ }
 {
-    decode::tablet_at(&rows[i][..], 0)
+    decode_rows::tablet_at(&rows[i][..], 0)
 }
 
 pub fn tablet_key(rows: &[TabletRow], i: usize) -> u64
@@ -136,7 +136,7 @@ pub fn placement_row(rows: &[PlacementRow], i: usize) -> DesiredReplicaPlacement
     requires { ⌜ i < length (now rows) ⌝ }
     ensures { λ r. ⌜ r ≡ getD (map placementRow (now (rows .entry))) i blankPlacement ⌝ }
 {
-    decode::placement_at(&rows[i][..], 0)
+    decode_rows::placement_at(&rows[i][..], 0)
 }
 
 pub fn placement_key(rows: &[PlacementRow], i: usize) -> u64
@@ -173,7 +173,7 @@ pub fn retirement_row(rows: &[RetirementRow], i: usize) -> RetiredReplicaLifetim
     requires { ⌜ i < length (now rows) ⌝ }
     ensures { λ r. ⌜ r ≡ getD (map retirementRow (now (rows .entry))) i zeroRetirement ⌝ }
 {
-    decode::retirement_at(&rows[i][..], 0)
+    decode_rows::retirement_at(&rows[i][..], 0)
 }
 
 pub fn retirement_group(rows: &[RetirementRow], i: usize) -> u64

@@ -21,9 +21,9 @@ use lent_rows::tablet_row;
 use metadata::RaftGroupId;
 use metadata::TABLET_ROOM;
 use metadata::TabletId;
-use records::zero_tablet;
 use rows::TabletFound;
 use rows::place;
+use zeros::zero_tablet;
 
 fn tablet_is(rows: &[TabletRow], i: usize, id: TabletId) -> bool
     requires { ⌜ i < length (now rows) ⌝ }

@@ -1,19 +1,15 @@
 -- A sound store is its rows packed, and packed rows that are sound are a sound store: `pack-view`, `view-sound`, `pack-sound`. Assumes nothing.
-use Prim.Native.Nat.{ℕ, zero, suc, _-_, _≤_}
+use Prim.Native.Nat.{ℕ, _-_, _≤_}
 use native.Mathlib.Omega.{arith}
-use mathlib.Core.Path.{_≡_, refl, ap, sym, subst, _∙_}
-use mathlib.Core.Bool.{Bool, true, false}
-use mathlib.Core.List.{List, [], _∷_, _++_}
-use lib.Dec.{eqb, leb}
-use lib.ListN.{length, take, drop, replicate, length-append, length-replicate, length-drop, take-append-drop}
-use lib.Seq.{length-take-le, take-append-seam, drop-append-seam}
-use borrow.Author.Tests.{eqb-true, leb-true, eq-eqb, le-leb}
-use Rattle.laws.specs.Keyed.{Keyed, before, Rising}
+use mathlib.Core.Path.{_≡_, sym, subst}
+use mathlib.Core.Bool.{Bool, true}
+use mathlib.Core.List.{List}
+use lib.ListN.{length, take}
+use lib.Seq.{take-append-seam}
+use borrow.Author.Tests.{leb-true, le-leb}
 use Rattle.laws.specs.Lists.{every, All}
-use Rattle.laws.specs.Rows.{rising}
-use Rattle.laws.proofs.ListLaws.{and-i, every-all, all-every, all-map}
+use Rattle.laws.proofs.ListLaws.{every-all, all-every, all-map}
 use Rattle.laws.proofs.Tests.{each-of, all-of}
-use Rattle.laws.proofs.KeyedLaws.{rising-true, rising-pass}
 use Rattle.metadata.specs.Rooms.{nodeRoom, tableRoom, tabletRoom, retirementRoom}
 use Rattle.metadata.specs.Tables.{
   nodeKey,
@@ -34,17 +30,11 @@ use Rattle.metadata.specs.Tables.{
   zeroRetirement,
 }
 use Rattle.metadata.specs.Model.{StoreRows, DirectoryRows, CatalogRows, padded, view, viewDirectory, viewCatalog, pack, packDirectory, packCatalog}
-use Rattle.metadata.specs.Sound.{soundNode, soundTablet, soundPlacement, soundTable, replicasBelow, soundMarks, soundDirectory, soundCatalog, sound}
-use Rattle.metadata.specs.declared.NodeDescriptor.{NodeDescriptor}
+use Rattle.metadata.specs.Sound.{soundNode, soundTablet, soundPlacement, soundMarks, soundDirectory, soundCatalog, sound}
 use Rattle.metadata.specs.declared.TabletDescriptor.{TabletDescriptor}
 use Rattle.metadata.specs.declared.TableRow.{TableRow}
 use Rattle.metadata.specs.declared.DesiredReplica.{DesiredReplica}
 use Rattle.metadata.specs.declared.DesiredReplicaPlacement.{DesiredReplicaPlacement}
-use Rattle.metadata.specs.declared.Nodes.{Nodes}
-use Rattle.metadata.specs.declared.Tables.{Tables}
-use Rattle.metadata.specs.declared.Tablets.{Tablets}
-use Rattle.metadata.specs.declared.Placements.{Placements}
-use Rattle.metadata.specs.declared.Retirements.{Retirements}
 use Rattle.metadata.specs.declared.Directory.{Directory}
 use Rattle.metadata.specs.declared.Catalog.{Catalog}
 use Rattle.metadata.specs.declared.Store.{Store}

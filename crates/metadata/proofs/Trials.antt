@@ -8,7 +8,7 @@ use lib.ListN.{length, replicate}
 use Rattle.laws.specs.Bytes.{eqBytes}
 use Rattle.laws.specs.Lists.{any, tally, noneTwice}
 use Rattle.laws.specs.Tests.{allOf}
-use Rattle.metadata.specs.Rooms.{nameWidth, labelWidth, keyWidth, replicaRoom}
+use Rattle.metadata.specs.Rooms.{nameWidth, labelWidth, replicaRoom}
 use Rattle.metadata.specs.Texts.{fits, textAdmitted, blank, sameText, sameOptional, optionalAdmitted, optionalFits, isZeroText, allZero, zeroKey, noLabel}
 use Rattle.metadata.specs.Ranges.{lexLeb, overlapb, laterStart}
 use Rattle.metadata.specs.Labels.{

@@ -2,7 +2,7 @@
 use Prim.Native.Nat.{ℕ, _≤_}
 use mathlib.Core.Path.{_≡_}
 use mathlib.Core.Bool.{Bool, true, false}
-use mathlib.Core.List.{List, [], _∷_}
+use mathlib.Core.List.{List}
 use Rattle.laws.specs.Keyed.{has}
 use Rattle.laws.specs.Lists.{All, Apart}
 use Rattle.metadata.specs.Texts.{keyText}
@@ -11,8 +11,8 @@ use Rattle.metadata.specs.Tables.{nodeKey, tabletKey, nodeOf, tabletOf, 
 use Rattle.metadata.specs.Commands.{Command}
 use Rattle.metadata.specs.Tablets.{isRange, isReplicaRetired}
 use Rattle.metadata.specs.Model.{view, viewNodes, viewTables, viewTablets, viewPlacements, viewRetirements}
-use Rattle.metadata.specs.Sound.{sound, run, answers}
-use Rattle.metadata.specs.History.{History, begun, told, appliedPlacements}
+use Rattle.metadata.specs.Sound.{sound}
+use Rattle.metadata.specs.History.{History, told, appliedPlacements}
 use Rattle.metadata.specs.declared.Answer.{Answer}
 use Rattle.metadata.specs.declared.NodeDescriptor.{NodeDescriptor}
 use Rattle.metadata.specs.declared.TabletDescriptor.{TabletDescriptor}

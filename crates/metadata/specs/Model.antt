@@ -1,7 +1,7 @@
 -- The model: what each command is answered and what an Applied one does, on the tables as lists of rows; and a step of the store. Assumes nothing.
 use Prim.Native.Nat.{ℕ, _-_, max}
-use mathlib.Core.Bool.{Bool, true, false, not, cond, _&&_}
-use mathlib.Core.List.{List, [], _∷_, _++_}
+use mathlib.Core.Bool.{true, not, cond, _&&_}
+use mathlib.Core.List.{List, _++_}
 use lib.Dec.{eqb}
 use lib.ListN.{length, take, replicate}
 use Rattle.laws.specs.Keyed.{put}

@@ -1,16 +1,14 @@
 -- The opening (document 01, "Room and admission"). Assumes nothing.
 use Prim.Native.Nat.{ℕ}
-use mathlib.Core.Bool.{Bool, true, false, not, cond}
+use mathlib.Core.Bool.{cond}
 use mathlib.Core.List.{List, [], _∷_}
 use Rattle.laws.specs.Keyed.{before}
 use Rattle.laws.specs.Rows.{insertBy}
 use Rattle.metadata.specs.Texts.{noName}
 use Rattle.metadata.specs.Marks.{initialMarks, highest}
-use Rattle.metadata.specs.Answers.{refuse}
 use Rattle.metadata.specs.Tables.{tableKey}
 use Rattle.metadata.specs.Commands.{openingAdmitted}
 use Rattle.metadata.specs.Model.{StoreRows, pack}
-use Rattle.metadata.specs.declared.Answer.{Answer}
 use Rattle.metadata.specs.declared.Answer.the-variants as A
 use Rattle.metadata.specs.declared.Answered.{Answered}
 use Rattle.metadata.specs.declared.TableRow.{TableRow}

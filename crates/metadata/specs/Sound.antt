@@ -2,7 +2,7 @@
 -- "A store over this room, its rows not rising, with a node twice in one placement, with padding not zero, or with a mark below
 -- a table, tablet, group or desired replica id, gets 10, reason 12, before all else."
 use Prim.Native.Nat.{ℕ}
-use mathlib.Core.Bool.{Bool, true, false, cond}
+use mathlib.Core.Bool.{Bool, cond}
 use mathlib.Core.List.{List, [], _∷_}
 use lib.Dec.{leb, eqb}
 use lib.ListN.{length, take, drop}

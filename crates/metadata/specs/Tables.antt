@@ -1,12 +1,11 @@
 -- The rows of each table: their keys, what they list, when two are the same, and the zero rows. Assumes nothing.
 use Prim.Native.Nat.{ℕ}
-use mathlib.Core.Bool.{Bool, true, false, cond, _&&_}
+use mathlib.Core.Bool.{Bool, true, false, _&&_}
 use mathlib.Core.List.{List, [], _∷_}
 use lib.Dec.{eqb}
-use lib.ListN.{take, drop, replicate}
+use lib.ListN.{take, replicate}
 use Rattle.laws.specs.Bytes.{isZero}
 use Rattle.laws.specs.Keyed.{Keyed, byNumber, byPair, row}
-use Rattle.laws.specs.Lists.{every}
 use Rattle.laws.specs.Tests.{allOf}
 use Rattle.metadata.specs.Rooms.{replicaRoom, nameWidth, labelWidth, keyWidth}
 use Rattle.metadata.specs.Texts.{

@@ -3,7 +3,7 @@ use mathlib.Core.Path.{_≡_, refl, ap, _∙_}
 use mathlib.Core.List.{List}
 use Rattle.laws.specs.Keyed.{row}
 use Rattle.laws.proofs.KeyedLaws.{row-same}
-use Rattle.lifecycle.specs.Steps.{expectedOn}
+use Rattle.moves.specs.Steps.{expectedOn}
 use Rattle.metadata.specs.Answers.{each}
 use Rattle.metadata.specs.Nodes.{expectedAt}
 use Rattle.metadata.specs.Tables.{placementKey, placementOf, desired, zeroPlacement, blankPlacement}

@@ -4,17 +4,17 @@ use mathlib.Core.Path.{_≡_, sym, ap, _∙_}
 use mathlib.Core.Bool.{Bool, true}
 use mathlib.Core.List.{List}
 use lib.ListN.{getD, take}
-use Rattle.labels.specs.Picks.{bestFound}
-use Rattle.labels.specs.declared.Best.{Best}
-use Rattle.labels.proofs.Choice.{Comparing, more}
+use Rattle.picking.specs.Picked.{bestFound}
+use Rattle.picking.specs.declared.Best.{Best}
+use Rattle.picking.proofs.Choice.{Comparing, more}
 use Rattle.metadata.specs.Labels.{stepBest}
 use Rattle.metadata.specs.Nodes.{clash, clashFields}
 use Rattle.metadata.specs.Tables.{endpoints}
 use Rattle.metadata.specs.declared.Clash.{Clash}
 use Rattle.metadata.specs.declared.Clash.the-variants.{Nothing}
 use Rattle.metadata.specs.declared.NodeDescriptor.{NodeDescriptor}
-use Rattle.registering.specs.Steps.{isClash}
-use Rattle.registering.proofs.Endpoints.{Nodes-before, rows-skip, rows-stop}
+use Rattle.clashes.specs.Clashes.{isClash}
+use Rattle.clashes.proofs.Endpoints.{Nodes-before, rows-skip, rows-stop}
 
 module _ {d : NodeDescriptor} {room n : ℕ} {l : List NodeDescriptor} {i : ℕ} (x : NodeDescriptor) (h : i < n) (r : i < room) (e : x ≡ getD l i d) where
   pub compared : {chosen : List NodeDescriptor} {b c : Best} → Comparing d chosen room n l b i → bestFound c ≡ stepBest chosen (bestFound b) x →

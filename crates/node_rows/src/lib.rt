@@ -1,12 +1,11 @@
 // The nodes: rows that rise by their id.
 ghost use mathlib.Core.Path.{_≡_};
-ghost use Prim.Native.Nat.{_+_, _≤_, _<_};
-ghost use lib.ListN.{take, drop, getD};
+ghost use Prim.Native.Nat.{_≤_, _<_};
+ghost use lib.ListN.{take, getD};
 ghost use Rattle.laws.specs.Keyed.{before, has, row};
-ghost use Rattle.laws.specs.Lists.{every};
-ghost use Rattle.laws.specs.Rows.{findIndex, rising};
+ghost use Rattle.laws.specs.Rows.{findIndex};
 ghost use Rattle.metadata.specs.Rooms.{nodeRoom};
-ghost use Rattle.metadata.specs.Tables.{nodeKey, isZeroNode, zeroNode};
+ghost use Rattle.metadata.specs.Tables.{nodeKey, zeroNode};
 ghost use Rattle.metadata.specs.Model.{viewNodes};
 ghost use Rattle.rows.specs.Results.{openedRows, under, nodesWith, nodesSet};
 use laws::Found;
@@ -14,11 +13,10 @@ use metadata::NODE_ROOM;
 use metadata::NodeDescriptor;
 use metadata::NodeId;
 use metadata::Nodes;
-use records::is_zero_node;
-use records::zero_node;
 use rows::NodeFound;
 use rows::NodesWith;
 use rows::place;
+use zeros::zero_node;
 
 // Where the row with this key stands among the rows in use.
 pub fn find_node(t: Nodes, id: NodeId) -> Found
@@ -86,24 +84,6 @@ fn behind(t: Nodes, x: NodeDescriptor) -> Found
     Found::Nothing
 }
 
-pub fn nodes_rising(t: Nodes) -> bool
-    ensures { λ r. ⌜ r ≡ rising (before nodeKey) (take (t .count) (t .rows)) ⌝ }
-{
-    let rows = t.rows;
-    let count = t.count;
-    let mut i = 0;
-    while i + 1 < count {
-        if NODE_ROOM <= i + 1 {
-            return true;
-        }
-        if rows[i + 1].node_id.0 <= rows[i].node_id.0 {
-            return false;
-        }
-        i += 1;
-    }
-    true
-}
-
 // The rows from the place on move up by one, and the new row takes the place.
 fn opened(
     rows: [NodeDescriptor; NODE_ROOM],
@@ -168,20 +148,4 @@ pub fn node_at(t: Nodes, i: usize) -> NodeDescriptor
     }
     let rows = t.rows;
     rows[i]
-}
-
-// The rows that are not in use are all zero.
-pub fn nodes_clear(t: Nodes) -> bool
-    ensures { λ r. ⌜ r ≡ every isZeroNode (drop (t .count) (t .rows)) ⌝ }
-{
-    let rows = t.rows;
-    let mut i = t.count;
-    while i < NODE_ROOM {
-        if is_zero_node(rows[i]) {
-            i += 1;
-        } else {
-            return false;
-        }
-    }
-    true
 }

@@ -1,17 +1,18 @@
 // Document 01, "Room and admission": the reason of a placement, the lowest that applies, 0 if none does.
 ghost use mathlib.Core.Path.{_≡_};
-ghost use lib.ListN.{take, drop};
+ghost use lib.ListN.{take};
 ghost use lib.Seq.{slice};
-ghost use Rattle.laws.specs.Lists.{every, any, noneTwice};
-ghost use Rattle.metadata.specs.Tables.{desired, isZeroId, isZeroReplica};
-ghost use Rattle.metadata.specs.Commands.{lowest, placementFaults, replicasAdmitted, minimaAdmitted, leadersAdmitted, classBlank, sameId};
+ghost use Rattle.laws.specs.Lists.{any, noneTwice};
+ghost use Rattle.metadata.specs.Tables.{desired};
+ghost use Rattle.metadata.specs.Commands.{lowest, placementFaults, replicasAdmitted, minimaAdmitted, classBlank};
 ghost use Rattle.placement_admission.specs.Tests.{countAdmitted, zeroInside, placementZeroId, badRole, sharesId, policyFaults};
 use admission::label_blank;
+use leader_admission::leaders_admitted;
 use metadata::DesiredReplica;
 use metadata::DesiredReplicaPlacement;
-use metadata::NodeId;
 use metadata::PlacementPolicy;
 use metadata::REPLICA_ROOM;
+use zeros::replicas_clear;
 
 // Reason 5: "lifecycle above 4, a used role or partition kind above 1".
 const LAST_ROLE: u8 = 1;
@@ -111,21 +112,6 @@ fn replicas_differ(replicas: [DesiredReplica; REPLICA_ROOM], n: u8) -> bool
     true
 }
 
-// The places from `from` on are zero.
-fn replicas_clear(replicas: [DesiredReplica; REPLICA_ROOM], from: u8) -> bool
-    ensures { λ r. ⌜ r ≡ every isZeroReplica (drop from replicas) ⌝ }
-{
-    let mut i = from as usize;
-    while i < REPLICA_ROOM {
-        if records::is_zero_replica(replicas[i]) {
-            i += 1;
-        } else {
-            return false;
-        }
-    }
-    true
-}
-
 fn count_admitted(n: u8, factor: u32) -> bool
     ensures { λ r. ⌜ r ≡ countAdmitted n factor ⌝ }
 {
@@ -149,97 +135,6 @@ pub fn minima_admitted(q: PlacementPolicy) -> bool
     (q.min_distinct_regions <= q.replication_factor)
         & (q.min_distinct_zones <= q.replication_factor)
         & (q.min_distinct_racks <= q.replication_factor)
-}
-
-fn is_zero_id(n: NodeId) -> bool
-    ensures { λ r. ⌜ r ≡ isZeroId n ⌝ }
-{
-    n.0 == 0
-}
-
-// One of the first n is zero.
-fn any_zero_leader(ids: [NodeId; REPLICA_ROOM], n: u8) -> bool
-    ensures { λ r. ⌜ r ≡ any isZeroId (take n ids) ⌝ }
-{
-    let to = n as usize;
-    let mut i: usize = 0;
-    while i < to {
-        if REPLICA_ROOM <= i {
-            return false;
-        }
-        if is_zero_id(ids[i]) {
-            return true;
-        }
-        i += 1;
-    }
-    false
-}
-
-fn same_id(a: NodeId, b: NodeId) -> bool
-    ensures { λ r. ⌜ r ≡ sameId a b ⌝ }
-{
-    a.0 == b.0
-}
-
-fn leader_again(x: NodeId, ids: [NodeId; REPLICA_ROOM], from: usize, to: usize) -> bool
-    ensures { λ r. ⌜ r ≡ any (sameId x) (slice from to ids) ⌝ }
-{
-    let mut j = from;
-    while j < to {
-        if REPLICA_ROOM <= j {
-            return false;
-        }
-        if same_id(x, ids[j]) {
-            return true;
-        }
-        j += 1;
-    }
-    false
-}
-
-// No id twice among the first n.
-fn leaders_differ(ids: [NodeId; REPLICA_ROOM], n: u8) -> bool
-    ensures { λ r. ⌜ r ≡ noneTwice sameId (take n ids) ⌝ }
-{
-    let to = n as usize;
-    let mut i: usize = 0;
-    while i < to {
-        if REPLICA_ROOM <= i {
-            return true;
-        }
-        let x = ids[i];
-        if leader_again(x, ids, i + 1, to) {
-            return false;
-        }
-        i += 1;
-    }
-    true
-}
-
-// The places from `from` on are zero.
-fn leaders_clear(ids: [NodeId; REPLICA_ROOM], from: u8) -> bool
-    ensures { λ r. ⌜ r ≡ every isZeroId (drop from ids) ⌝ }
-{
-    let mut i = from as usize;
-    while i < REPLICA_ROOM {
-        if is_zero_id(ids[i]) {
-            i += 1;
-        } else {
-            return false;
-        }
-    }
-    true
-}
-
-// Reason 9 does not apply.
-pub fn leaders_admitted(q: PlacementPolicy) -> bool
-    ensures { λ r. ⌜ r ≡ leadersAdmitted q ⌝ }
-{
-    let ids = q.preferred_leader_nodes;
-    ((q.preferred_leader_count as usize) <= REPLICA_ROOM)
-        & !any_zero_leader(ids, q.preferred_leader_count)
-        & leaders_differ(ids, q.preferred_leader_count)
-        & leaders_clear(ids, q.preferred_leader_count)
 }
 
 // Reason 4: a class that is asked for, empty or all spaces.

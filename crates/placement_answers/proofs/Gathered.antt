@@ -7,7 +7,7 @@ use borrow.Author.Needs.{needs}
 use Rattle.metadata.specs.Rooms.{retirementRoom}
 use Rattle.metadata.specs.Tables.{zeroRetirement}
 use Rattle.metadata.specs.declared.RetiredReplicaLifetime.{RetiredReplicaLifetime}
-use Rattle.retirements.proofs.Gathered as G
+use Rattle.retired.proofs.Gathered as G
 
 module _ {group n : ℕ} {l : List RetiredReplicaLifetime} {ids : List ℕ} {count i : ℕ} (s : G.Gathering group n l ids count i)
     (h : i < n) (r : i < retirementRoom) (g : ℕ) (e : g ≡ getD l i zeroRetirement .«raft_group_id» .0) where

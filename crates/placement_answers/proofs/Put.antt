@@ -12,7 +12,7 @@ use Rattle.lent_rows.specs.Lent.{placementRow, lentPlacements}
 use Rattle.metadata.specs.Tables.{placementKey}
 use Rattle.metadata.specs.declared.DesiredReplicaPlacement.{DesiredReplicaPlacement}
 use Rattle.metadata.specs.declared.Placements.{Placements}
-use Rattle.placements.specs.Copies.{placementsPut}
+use Rattle.rows.specs.Results.{placementsPut}
 use Rattle.rows.specs.Results.{under, placementsWith}
 
 -- id is the key that the code read off the row x, and g what the search for it among the first n rows gave

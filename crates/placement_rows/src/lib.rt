@@ -1,13 +1,12 @@
 // The placements: rows that rise by their tablet's id.
 ghost use mathlib.Core.Path.{_≡_};
 ghost use mathlib.Core.List.{map};
-ghost use Prim.Native.Nat.{_+_, _≤_, _<_};
-ghost use lib.ListN.{take, drop, getD};
+ghost use Prim.Native.Nat.{_≤_, _<_};
+ghost use lib.ListN.{take, getD};
 ghost use Rattle.laws.specs.Keyed.{before, has, row};
-ghost use Rattle.laws.specs.Lists.{every};
-ghost use Rattle.laws.specs.Rows.{findIndex, rising};
+ghost use Rattle.laws.specs.Rows.{findIndex};
 ghost use Rattle.metadata.specs.Rooms.{tabletRoom};
-ghost use Rattle.metadata.specs.Tables.{placementKey, isZeroPlacement, zeroPlacement};
+ghost use Rattle.metadata.specs.Tables.{placementKey, zeroPlacement};
 ghost use Rattle.metadata.specs.Model.{viewPlacements};
 ghost use Rattle.metadata.specs.declared.DesiredReplicaPlacement.{DesiredReplicaPlacement};
 ghost use Rattle.rows.specs.Results.{openedRows, under, placementsWith, placementsSet};
@@ -16,11 +15,10 @@ use metadata::DesiredReplicaPlacement;
 use metadata::Placements;
 use metadata::TABLET_ROOM;
 use metadata::TabletId;
-use records::is_zero_placement;
-use records::zero_placement;
 use rows::PlacementFound;
 use rows::PlacementsWith;
 use rows::place;
+use zeros::zero_placement;
 
 // Where the row with this key stands among the rows in use.
 pub fn find_placement(t: Placements, tablet: TabletId) -> Found
@@ -102,24 +100,6 @@ fn behind(t: Placements, x: DesiredReplicaPlacement) -> Found
     Found::Nothing
 }
 
-pub fn placements_rising(t: Placements) -> bool
-    ensures { λ r. ⌜ r ≡ rising (before placementKey) (take (t .count) (t .rows)) ⌝ }
-{
-    let rows = t.rows;
-    let count = t.count;
-    let mut i = 0;
-    while i + 1 < count {
-        if TABLET_ROOM <= i + 1 {
-            return true;
-        }
-        if rows[i + 1].tablet_id.0 <= rows[i].tablet_id.0 {
-            return false;
-        }
-        i += 1;
-    }
-    true
-}
-
 // The rows from the place on move up by one, and the new row takes the place.
 fn opened(
     rows: [DesiredReplicaPlacement; TABLET_ROOM],
@@ -184,20 +164,4 @@ pub fn placement_at(t: Placements, i: usize) -> DesiredReplicaPlacement
     }
     let rows = t.rows;
     rows[i]
-}
-
-// The rows that are not in use are all zero.
-pub fn placements_clear(t: Placements) -> bool
-    ensures { λ r. ⌜ r ≡ every isZeroPlacement (drop (t .count) (t .rows)) ⌝ }
-{
-    let rows = t.rows;
-    let mut i = t.count;
-    while i < TABLET_ROOM {
-        if is_zero_placement(rows[i]) {
-            i += 1;
-        } else {
-            return false;
-        }
-    }
-    true
 }

@@ -1,5 +1,2 @@
 -- The laws that belong to no one function. Assumes nothing.
-pub mod Applied
-pub mod Checks
-pub mod Last
-pub mod Placing
+pub mod Puts

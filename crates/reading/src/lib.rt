@@ -118,7 +118,7 @@ pub fn open_tape(tape: &[u8]) -> Answered
     if tape.len() < 9 + 12 * count {
         return cut_opening();
     }
-    let rows = decode::tables_at(tape, 9, count);
+    let rows = decode_rows::tables_at(tape, 9, count);
     opening::open(count, rows, decode::number8(tape, 1))
 }
 

@@ -2,159 +2,39 @@
 ghost use mathlib.Core.Path.{_≡_};
 ghost use mathlib.Core.Bool.{true, false, cond};
 ghost use Prim.Native.Nat.{_<_};
-ghost use lib.ListN.{getD};
 ghost use Rattle.laws.specs.Keyed.{has};
 ghost use Rattle.metadata.specs.Rooms.{nodeRoom};
 ghost use Rattle.metadata.specs.Answers.{isApplied};
-ghost use Rattle.metadata.specs.Tables.{nodeKey, endpoints, isZeroNode};
-ghost use Rattle.metadata.specs.Nodes.{clash, judgeNewNode, judgeRegistering, registeredNodes};
+ghost use Rattle.metadata.specs.Tables.{nodeKey, isZeroNode};
+ghost use Rattle.metadata.specs.Nodes.{judgeNewNode, judgeRegistering, registeredNodes};
 ghost use Rattle.metadata.specs.Model.{viewNodes, viewTablets, viewPlacements, packNodes};
 ghost use Rattle.metadata.specs.Sound.{soundTable};
-ghost use Rattle.registering.specs.Steps.{clashAt, isClash, judgeFreeNode, judgeKnownRow, registeringAnswer};
+ghost use Rattle.registering.specs.Steps.{registeringAnswer};
 use admission::node_reason;
-use fields::same_name;
+use clashes::clash;
+use entering::judge_free_node;
+use entering::judge_known_row;
 use laws::Found;
 use lifecycle::NodesAnswered;
-use lifecycle::judge_move;
-use lifecycle::leaves;
 use lifecycle::moved_at;
 use lifecycle::still_expected;
 use metadata::Answer;
-use metadata::Clash;
-use metadata::NODE_ROOM;
-use metadata::Name;
 use metadata::NodeDescriptor;
 use metadata::Nodes;
 use metadata::OptionalName;
 use metadata::Placements;
 use metadata::Tablets;
+use moves::leaves;
 use node_rows::find_node;
 use node_rows::insert_node;
 use node_rows::lookup_node;
-use records::same_node;
-use records::same_node_directory;
 use reports::is_applied;
-use rows::NodeFound;
-
-// A node's endpoints: raft, snapshot, sql, admin.
-pub const ENDPOINTS: u8 = 4;
-
-const ACTIVE: u8 = 0;
-
-// In refusal 15, where a node that is new comes from.
-const UNREGISTERED: u8 = 5;
-
-const NODE_TABLE: u8 = 0;
-
-// Endpoint j; above 3 the last, so that no caller has an index to prove.
-pub fn endpoint(n: NodeDescriptor, j: u8) -> Name
-    ensures { λ r. ⌜ r ≡ getD (endpoints n) j (n .«admin_addr») ⌝ }
-{
-    if j == 0 {
-        return n.raft_addr;
-    }
-    if j == 1 {
-        return n.snapshot_addr;
-    }
-    if j == 2 {
-        return n.sql_addr;
-    }
-    n.admin_addr
-}
-
-// The existing node's first field that equals the new node's field j, which is t.
-pub fn clash_at(old: NodeDescriptor, j: u8, t: Name) -> Clash
-    ensures { λ r. ⌜ r ≡ clashAt old j t ⌝ }
-{
-    let id = old.node_id;
-    if same_name(old.raft_addr, t) {
-        return Clash::At(id, j, 0);
-    }
-    if same_name(old.snapshot_addr, t) {
-        return Clash::At(id, j, 1);
-    }
-    if same_name(old.sql_addr, t) {
-        return Clash::At(id, j, 2);
-    }
-    if same_name(old.admin_addr, t) {
-        return Clash::At(id, j, 3);
-    }
-    Clash::Nothing
-}
-
-// There is a clash.
-pub fn is_clash(c: Clash) -> bool
-    ensures { λ r. ⌜ r ≡ isClash c ⌝ }
-{
-    match c {
-        Clash::At(_, _, _) => true,
-        Clash::Nothing => false,
-    }
-}
-
-// The first clash: existing nodes by id, then the new node's fields, each against all of the existing node's.
-pub fn clash(new: NodeDescriptor, nodes: Nodes) -> Clash
-    ensures { λ r. ⌜ r ≡ clash new (viewNodes nodes) ⌝ }
-{
-    let rows = nodes.rows;
-    let count = nodes.count;
-    let mut found = Clash::Nothing;
-    let mut i: usize = 0;
-    'rows: while i < count {
-        if NODE_ROOM <= i {
-            break 'rows;
-        }
-        let mut j: u8 = 0;
-        while j < ENDPOINTS {
-            let c = clash_at(rows[i], j, endpoint(new, j));
-            if is_clash(c) {
-                found = c;
-                break 'rows;
-            }
-            j += 1;
-        }
-        i += 1;
-    }
-    found
-}
-
-// A new node by the first clash of its endpoints: there is none, it is Active, and a row is left beside the count that are in use.
-pub fn judge_free_node(c: Clash, count: usize, n: NodeDescriptor) -> Answer
-    ensures { λ r. ⌜ r ≡ judgeFreeNode c count n ⌝ }
-{
-    let id = n.node_id;
-    if let Clash::At(node, field, _) = c {
-        return Answer::NodeEndpointConflict(node, id, field);
-    }
-    if n.lifecycle != ACTIVE {
-        return Answer::InvalidNodeLifecycleTransition(id, UNREGISTERED, n.lifecycle);
-    }
-    if NODE_ROOM <= count {
-        return Answer::TableFull(NODE_TABLE, NODE_ROOM as u64);
-    }
-    Answer::Applied
-}
 
 // The same among the nodes, which are searched for the clash.
 pub fn judge_new_node(nodes: Nodes, n: NodeDescriptor) -> Answer
     ensures { λ r. ⌜ r ≡ judgeNewNode (viewNodes nodes) n ⌝ }
 {
     judge_free_node(clash(n, nodes), nodes.count, n)
-}
-
-// Against its row: the same record, another directory, or a move.
-pub fn judge_known_row(old: NodeFound, n: NodeDescriptor) -> Answer
-    ensures { λ r. ⌜ r ≡ judgeKnownRow old n ⌝ }
-{
-    let row = old.row;
-    let id = n.node_id;
-    if same_node(row, n) {
-        return Answer::AlreadyApplied;
-    }
-    if !same_node_directory(row, n) {
-        return Answer::NodeIdConflict(id);
-    }
-    judge_move(old, id, n.lifecycle)
 }
 
 // Who expects the node is asked only where it leaves.

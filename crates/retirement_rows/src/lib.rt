@@ -1,12 +1,11 @@
 // The retirements: rows that rise by their group and, within a group, by their replica.
 ghost use mathlib.Core.Path.{_≡_};
-ghost use Prim.Native.Nat.{_+_, _≤_, _<_};
-ghost use lib.ListN.{take, drop, getD};
+ghost use Prim.Native.Nat.{_≤_, _<_};
+ghost use lib.ListN.{take, getD};
 ghost use Rattle.laws.specs.Keyed.{before, has, row};
-ghost use Rattle.laws.specs.Lists.{every};
-ghost use Rattle.laws.specs.Rows.{findIndex, rising};
+ghost use Rattle.laws.specs.Rows.{findIndex};
 ghost use Rattle.metadata.specs.Rooms.{retirementRoom};
-ghost use Rattle.metadata.specs.Tables.{retirementKey, isZeroRetirement, zeroRetirement};
+ghost use Rattle.metadata.specs.Tables.{retirementKey, zeroRetirement};
 ghost use Rattle.metadata.specs.Model.{viewRetirements};
 ghost use Rattle.rows.specs.Results.{openedRows, under, retirementsWith};
 use laws::Found;
@@ -15,11 +14,10 @@ use metadata::RaftGroupId;
 use metadata::ReplicaId;
 use metadata::RetiredReplicaLifetime;
 use metadata::Retirements;
-use records::is_zero_retirement;
-use records::zero_retirement;
 use rows::RetirementFound;
 use rows::RetirementsWith;
 use rows::place;
+use zeros::zero_retirement;
 
 fn has_ids(row: RetiredReplicaLifetime, group: RaftGroupId, replica: ReplicaId) -> bool
     ensures { λ r. ⌜ r ≡ under retirementKey (group .0, replica .0) row ⌝ }
@@ -27,7 +25,7 @@ fn has_ids(row: RetiredReplicaLifetime, group: RaftGroupId, replica: ReplicaId) 
     (row.raft_group_id.0 == group.0) & (row.replica_id.0 == replica.0)
 }
 
-fn comes_before(x: RetiredReplicaLifetime, y: RetiredReplicaLifetime) -> bool
+pub fn comes_before(x: RetiredReplicaLifetime, y: RetiredReplicaLifetime) -> bool
     ensures { λ r. ⌜ r ≡ before retirementKey x y ⌝ }
 {
     (x.raft_group_id.0 < y.raft_group_id.0)
@@ -100,25 +98,6 @@ fn behind(t: Retirements, x: RetiredReplicaLifetime) -> Found
     Found::Nothing
 }
 
-pub fn retirements_rising(t: Retirements) -> bool
-    ensures { λ r. ⌜ r ≡ rising (before retirementKey) (take (t .count) (t .rows)) ⌝ }
-{
-    let rows = t.rows;
-    let count = t.count;
-    let mut i = 0;
-    while i + 1 < count {
-        if RETIREMENT_ROOM <= i + 1 {
-            return true;
-        }
-        if comes_before(rows[i], rows[i + 1]) {
-            i += 1;
-        } else {
-            return false;
-        }
-    }
-    true
-}
-
 // The rows from the place on move up by one, and the new row takes the place.
 fn opened(
     rows: [RetiredReplicaLifetime; RETIREMENT_ROOM],
@@ -171,20 +150,4 @@ pub fn retirement_at(t: Retirements, i: usize) -> RetiredReplicaLifetime
     }
     let rows = t.rows;
     rows[i]
-}
-
-// The rows that are not in use are all zero.
-pub fn retirements_clear(t: Retirements) -> bool
-    ensures { λ r. ⌜ r ≡ every isZeroRetirement (drop (t .count) (t .rows)) ⌝ }
-{
-    let rows = t.rows;
-    let mut i = t.count;
-    while i < RETIREMENT_ROOM {
-        if is_zero_retirement(rows[i]) {
-            i += 1;
-        } else {
-            return false;
-        }
-    }
-    true
 }

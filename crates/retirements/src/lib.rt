@@ -1,8 +1,6 @@
 // Retirement: a replica number that is no longer desired is given up for good.
 ghost use mathlib.Core.Path.{_≡_};
 ghost use mathlib.Core.Bool.{true, cond};
-ghost use mathlib.Core.List.{List};
-ghost use Prim.Native.Nat.{ℕ};
 ghost use lib.Dec.{leb};
 ghost use lib.ListN.{length, take};
 ghost use Rattle.laws.specs.Keyed.{put};
@@ -10,41 +8,30 @@ ghost use Rattle.metadata.specs.Rooms.{retirementRoom};
 ghost use Rattle.metadata.specs.Answers.{isApplied};
 ghost use Rattle.metadata.specs.Tables.{retirementKey, isZeroRetirement};
 ghost use Rattle.metadata.specs.Commands.{retirement};
-ghost use Rattle.metadata.specs.Tablets.{isReplicaRetired, desires, judgeRetirement};
+ghost use Rattle.metadata.specs.Tablets.{judgeRetirement};
 ghost use Rattle.metadata.specs.Model.{viewTablets, viewPlacements, viewRetirements, packRetirements, decided};
 ghost use Rattle.metadata.specs.Sound.{soundTable};
-ghost use Rattle.metadata.specs.declared.RetiredReplicaLifetime.{RetiredReplicaLifetime};
-ghost use Rattle.retirements.specs.Steps.{retiredNumbers, judgeKnownRow, judgeNewRow};
+ghost use Rattle.retired.specs.Steps.{retiredNumbers};
 use admission::retirement_reason;
-use laws::Found;
 use metadata::Answer;
-use metadata::DesiredReplicaPlacement;
 use metadata::OptionalName;
 use metadata::Placements;
 use metadata::RETIREMENT_ROOM;
 use metadata::RaftGroupId;
-use metadata::ReplicaId;
 use metadata::RetiredReplicaLifetime;
 use metadata::Retirements;
-use metadata::TabletId;
 use metadata::Tablets;
 use placement_rows::lookup_placement;
-use records::same_retirement;
-use replicas::placement_holds;
 use reports::is_applied;
+use retired::Numbers;
+use retired::desires;
+use retired::judge_known_retirement;
+use retired::judge_new_retirement;
 use retirement_rows::insert_retirement;
 use retirement_rows::lookup_retirement;
 use rows::LookedUp;
-use rows::PlacementFound;
-use rows::find_id;
 use rows::looked;
 use tablet_rows::lookup_group;
-
-// The numbers that are retired in a group: the first count places are used.
-pub struct Numbers {
-    pub count: usize,
-    pub ids: [u64; RETIREMENT_ROOM],
-}
 
 // All numbers that are retired in a group, so that the table is walked once for all replicas of a placement.
 pub fn retired_numbers(group: RaftGroupId, retirements: Retirements) -> Numbers
@@ -70,64 +57,11 @@ pub fn retired_numbers(group: RaftGroupId, retirements: Retirements) -> Numbers
     Numbers { count, ids }
 }
 
-// Retired in its group, the one test for it: the first n ids are the numbers that are retired there.
-pub fn is_replica_retired(ids: &[u64], n: usize, replica: ReplicaId) -> bool
-    ensures { λ r. ⌜ ((group : ℕ) (retirements : List RetiredReplicaLifetime) → take n (now (ids .entry)) ≡ retiredNumbers group retirements → r ≡ isReplicaRetired group (replica .0) retirements) ⌝ }
-{
-    let Found::At(_) = find_id(ids, n, replica.0) else {
-        return false;
-    };
-    true
-}
-
-// The replica number is desired.
-pub fn desires(replica: ReplicaId, p: DesiredReplicaPlacement) -> bool
-    ensures { λ r. ⌜ r ≡ desires (replica .0) p ⌝ }
-{
-    let replicas = p.replicas;
-    placement_holds(replicas, p.replica_count, replica)
-}
-
-// A retirement that is known: the same row again, or another proof for the same replica.
-pub fn judge_known_retirement(known: RetiredReplicaLifetime, x: RetiredReplicaLifetime) -> Answer
-    ensures { λ r. ⌜ r ≡ judgeKnownRow known x ⌝ }
-{
-    let group = x.raft_group_id;
-    let replica = x.replica_id;
-    if same_retirement(known, x) {
-        return Answer::AlreadyApplied;
-    }
-    Answer::RetirementProofConflict(group, replica)
-}
-
 // No row is left for another retirement.
 fn retirements_full(retirements: Retirements) -> bool
     ensures { λ r. ⌜ r ≡ leb retirementRoom (length (viewRetirements retirements)) ⌝ }
 {
     RETIREMENT_ROOM <= retirements.count
-}
-
-// The checks of a retirement that is not known yet, by the placement of its group's tablet.
-pub fn judge_new_retirement(
-    tablet: TabletId,
-    placed: PlacementFound,
-    full: bool,
-    x: RetiredReplicaLifetime,
-) -> Answer
-    ensures { λ r. ⌜ r ≡ judgeNewRow tablet (placed .there) (placed .row .«configuration_epoch») full x ⌝ }
-{
-    let stored = placed.row.configuration_epoch;
-    let received = x.desired_configuration_epoch;
-    let LookedUp::Row = looked(placed.there) else {
-        return Answer::UnknownTablet(tablet);
-    };
-    if received != stored {
-        return Answer::PlacementEpochMismatch(tablet, stored, received);
-    }
-    if full {
-        return Answer::TableFull(2, RETIREMENT_ROOM as u64);
-    }
-    Answer::Applied
 }
 
 // The checks of a retirement, from top to bottom; each row is looked up once. The retirements are asked as soon as they come in, so that the compiler need not copy them for a later use.

@@ -4,10 +4,12 @@ use mathlib.Core.Bool.{Bool, true, false, cond}
 use mathlib.Core.List.{List, _∷_, _++_}
 use lib.Dec.{ltb}
 use lib.ListN.{set, take, drop}
-use Rattle.laws.specs.Keyed.{Keyed, before}
-use Rattle.laws.specs.Rows.{insertRows}
+use Rattle.laws.specs.Keyed.{Keyed, before, has, row}
+use Rattle.laws.specs.Rows.{findIndex, onFound, insertRows}
 use Rattle.metadata.specs.Rooms.{nodeRoom, tableRoom, tabletRoom, retirementRoom}
-use Rattle.metadata.specs.Tables.{nodeKey, tableKey, tabletKey, placementKey, retirementKey}
+use Rattle.metadata.specs.Tables.{nodeKey, tableKey, tabletKey, placementKey, retirementKey, blankNode, zeroNode}
+use Rattle.metadata.specs.declared.DesiredReplica.{DesiredReplica}
+use Rattle.rows.specs.declared.NodeFound.{NodeFound}
 use Rattle.metadata.specs.declared.NodeDescriptor.{NodeDescriptor}
 use Rattle.metadata.specs.declared.Nodes.{Nodes}
 use Rattle.rows.specs.declared.LookedUp.{LookedUp}
@@ -74,3 +76,18 @@ retirementsWith t x =
     cond (ltb (t .count) retirementRoom)
     (record { room = true; retirements = record { count = t .count + 1; rows = insertRows (before retirementKey) x (t .count) (t .rows) } })
     (record { room = false; retirements = t })
+
+-- what the lookup of a replica's node gives
+abbrev pub hostFound : List NodeDescriptor → DesiredReplica → NodeFound
+hostFound nodes r = record { there = has nodeKey (r .«node_id» .0) nodes; row = row nodeKey zeroNode (r .«node_id» .0) nodes }
+
+-- a lookup that gave nothing: what is read past the end of a list of them
+abbrev pub noHost : NodeFound
+noHost = record { there = false; row = blankNode }
+
+-- the table with the row in place of the one under its key, or inserted
+abbrev pub placementsPut : Placements → DesiredReplicaPlacement → Placements
+placementsPut t p =
+    onFound (findIndex (under placementKey (p .«tablet_id» .0)) (take (t .count) (t .rows)))
+    (λ i. placementsSet t i p)
+    (placementsWith t p .placements)

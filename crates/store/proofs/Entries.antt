@@ -6,7 +6,7 @@ use Rattle.metadata.specs.Model.{step}
 use Rattle.metadata.specs.Sound.{sound, entry}
 use Rattle.metadata.specs.declared.Answered.{Answered}
 use Rattle.metadata.specs.declared.Store.{Store}
-use Rattle.store.specs.Lookups.{unsound}
+use Rattle.store.specs.Refused.{unsound}
 
 -- b is what the test of the store gave
 pub test-true : (s : Store) (b : Bool) → b ≡ sound s → b ≡ true → sound s ≡ true

@@ -1,1 +1,2 @@
-pub mod Lookups
+-- The definitions that this crate adds to those of `metadata`. Assumes nothing.
+pub mod Refused

@@ -1,22 +1,20 @@
 // The tables: rows that rise by their id.
 ghost use mathlib.Core.Path.{_≡_};
-ghost use Prim.Native.Nat.{_+_, _≤_, _<_};
-ghost use lib.ListN.{take, drop, getD};
+ghost use Prim.Native.Nat.{_≤_, _<_};
+ghost use lib.ListN.{take, getD};
 ghost use Rattle.laws.specs.Keyed.{before};
-ghost use Rattle.laws.specs.Lists.{every};
-ghost use Rattle.laws.specs.Rows.{findIndex, rising};
+ghost use Rattle.laws.specs.Rows.{findIndex};
 ghost use Rattle.metadata.specs.Rooms.{tableRoom};
-ghost use Rattle.metadata.specs.Tables.{tableKey, isZeroTable, zeroTable};
+ghost use Rattle.metadata.specs.Tables.{tableKey, zeroTable};
 ghost use Rattle.rows.specs.Results.{openedRows, under, tablesWith};
 use laws::Found;
 use metadata::TABLE_ROOM;
 use metadata::TableId;
 use metadata::TableRow;
 use metadata::Tables;
-use records::is_zero_table;
-use records::zero_table;
 use rows::TablesWith;
 use rows::place;
+use zeros::zero_table;
 
 // Where the row with this key stands among the rows in use.
 pub fn find_table(t: Tables, id: TableId) -> Found
@@ -54,24 +52,6 @@ fn behind(t: Tables, x: TableRow) -> Found
         i += 1;
     }
     Found::Nothing
-}
-
-pub fn tables_rising(t: Tables) -> bool
-    ensures { λ r. ⌜ r ≡ rising (before tableKey) (take (t .count) (t .rows)) ⌝ }
-{
-    let rows = t.rows;
-    let count = t.count;
-    let mut i = 0;
-    while i + 1 < count {
-        if TABLE_ROOM <= i + 1 {
-            return true;
-        }
-        if rows[i + 1].table_id.0 <= rows[i].table_id.0 {
-            return false;
-        }
-        i += 1;
-    }
-    true
 }
 
 // The rows from the place on move up by one, and the new row takes the place.
@@ -126,20 +106,4 @@ pub fn table_at(t: Tables, i: usize) -> TableRow
     }
     let rows = t.rows;
     rows[i]
-}
-
-// The rows that are not in use are all zero.
-pub fn tables_clear(t: Tables) -> bool
-    ensures { λ r. ⌜ r ≡ every isZeroTable (drop (t .count) (t .rows)) ⌝ }
-{
-    let rows = t.rows;
-    let mut i = t.count;
-    while i < TABLE_ROOM {
-        if is_zero_table(rows[i]) {
-            i += 1;
-        } else {
-            return false;
-        }
-    }
-    true
 }

@@ -21,11 +21,11 @@ use metadata::TabletDescriptor;
 use records::same_tablet;
 use reports::is_applied;
 use table_rows::find_table;
-use tablets::holds_bucket;
-use tablets::in_table;
-use tablets::one;
-use tablets::overlap_at;
-use tablets::table_of;
+use tablet_checks::holds_bucket;
+use tablet_checks::in_table;
+use tablet_checks::one;
+use tablet_checks::overlap_at;
+use tablet_checks::table_of;
 
 // How many tablets of both kinds the table has.
 fn count_in_table(k: TableId, rows: &[TabletRow], count: usize) -> usize

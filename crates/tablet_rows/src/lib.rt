@@ -1,12 +1,11 @@
 // The tablets: rows that rise by their id.
 ghost use mathlib.Core.Path.{_≡_};
-ghost use Prim.Native.Nat.{_+_, _≤_, _<_};
-ghost use lib.ListN.{take, drop, getD};
+ghost use Prim.Native.Nat.{_≤_, _<_};
+ghost use lib.ListN.{take, getD};
 ghost use Rattle.laws.specs.Keyed.{before, has, row};
-ghost use Rattle.laws.specs.Lists.{every};
-ghost use Rattle.laws.specs.Rows.{findIndex, rising};
+ghost use Rattle.laws.specs.Rows.{findIndex};
 ghost use Rattle.metadata.specs.Rooms.{tabletRoom};
-ghost use Rattle.metadata.specs.Tables.{tabletKey, groupKey, isZeroTablet, zeroTablet};
+ghost use Rattle.metadata.specs.Tables.{tabletKey, groupKey, zeroTablet};
 ghost use Rattle.metadata.specs.Model.{viewTablets};
 ghost use Rattle.rows.specs.Results.{openedRows, under, tabletsWith};
 use laws::Found;
@@ -15,11 +14,10 @@ use metadata::TABLET_ROOM;
 use metadata::TabletDescriptor;
 use metadata::TabletId;
 use metadata::Tablets;
-use records::is_zero_tablet;
-use records::zero_tablet;
 use rows::TabletFound;
 use rows::TabletsWith;
 use rows::place;
+use zeros::zero_tablet;
 
 // Where the row with this key stands among the rows in use.
 pub fn find_tablet(t: Tablets, id: TabletId) -> Found
@@ -134,24 +132,6 @@ fn behind(t: Tablets, x: TabletDescriptor) -> Found
     Found::Nothing
 }
 
-pub fn tablets_rising(t: Tablets) -> bool
-    ensures { λ r. ⌜ r ≡ rising (before tabletKey) (take (t .count) (t .rows)) ⌝ }
-{
-    let rows = t.rows;
-    let count = t.count;
-    let mut i = 0;
-    while i + 1 < count {
-        if TABLET_ROOM <= i + 1 {
-            return true;
-        }
-        if rows[i + 1].tablet_id.0 <= rows[i].tablet_id.0 {
-            return false;
-        }
-        i += 1;
-    }
-    true
-}
-
 // The rows from the place on move up by one, and the new row takes the place.
 fn opened(
     rows: [TabletDescriptor; TABLET_ROOM],
@@ -204,20 +184,4 @@ pub fn tablet_at(t: Tablets, i: usize) -> TabletDescriptor
     }
     let rows = t.rows;
     rows[i]
-}
-
-// The rows that are not in use are all zero.
-pub fn tablets_clear(t: Tablets) -> bool
-    ensures { λ r. ⌜ r ≡ every isZeroTablet (drop (t .count) (t .rows)) ⌝ }
-{
-    let rows = t.rows;
-    let mut i = t.count;
-    while i < TABLET_ROOM {
-        if is_zero_tablet(rows[i]) {
-            i += 1;
-        } else {
-            return false;
-        }
-    }
-    true
 }

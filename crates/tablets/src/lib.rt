@@ -1,61 +1,38 @@
 // Tablets and completeness.
 ghost use mathlib.Core.Path.{_≡_};
 ghost use mathlib.Core.Bool.{true, cond};
-ghost use Prim.Native.Nat.{_≤_};
 ghost use lib.Dec.{leb};
 ghost use lib.ListN.{length};
 ghost use Rattle.laws.specs.Keyed.{put};
 ghost use Rattle.laws.specs.Lists.{any, tally};
 ghost use Rattle.metadata.specs.Rooms.{tabletRoom};
 ghost use Rattle.metadata.specs.Answers.{isApplied};
-ghost use Rattle.metadata.specs.Tables.{tabletKey, tableOf, isZeroTablet};
+ghost use Rattle.metadata.specs.Tables.{tabletKey, isZeroTablet};
 ghost use Rattle.metadata.specs.Commands.{tablet};
-ghost use Rattle.metadata.specs.Tablets.{isHash, inTable, holdsBucket, overlapAt, judgeHash, judgeRange, judgeNewTablet, judgeTablet, isComplete};
+ghost use Rattle.metadata.specs.Tablets.{isHash, inTable, holdsBucket, judgeHash, judgeRange, judgeNewTablet, judgeTablet, isComplete};
 ghost use Rattle.metadata.specs.Model.{viewTables, viewTablets, packTablets, decided};
 ghost use Rattle.metadata.specs.Sound.{soundTable};
 use admission::tablet_reason;
-use fields::partitions_overlap;
 use laws::Found;
 use metadata::Answer;
 use metadata::OptionalName;
 use metadata::TABLET_ROOM;
 use metadata::TableId;
-use metadata::TableRow;
 use metadata::Tables;
 use metadata::TabletDescriptor;
 use metadata::Tablets;
 use records::same_tablet;
-use records::zero_table;
 use reports::is_applied;
 use table_rows::find_table;
 use table_rows::table_at;
+use tablet_checks::holds_bucket;
+use tablet_checks::in_table;
+use tablet_checks::one;
+use tablet_checks::overlap_at;
+use tablet_checks::table_of;
 use tablet_rows::find_group;
 use tablet_rows::insert_tablet;
 use tablet_rows::lookup_tablet;
-
-// The table's row; the zero row where there is none.
-pub fn table_of(id: TableId, tables: Tables) -> TableRow
-    ensures { λ r. ⌜ r ≡ tableOf (id .0) (viewTables tables) ⌝ }
-{
-    let Found::At(i) = find_table(tables, id) else {
-        return zero_table();
-    };
-    table_at(tables, i)
-}
-
-// The tablet is one of the table's.
-pub fn in_table(k: TableId, t: TabletDescriptor) -> bool
-    ensures { λ r. ⌜ r ≡ inTable k t ⌝ }
-{
-    t.table_id.0 == k.0
-}
-
-// What a row adds to a count.
-pub fn one(b: bool) -> usize
-    ensures { λ r. ⌜ (r ≡ cond b 1 0) × (r ≤ 1) ⌝ }
-{
-    if b { 1 } else { 0 }
-}
 
 // How many tablets of both kinds the table has.
 pub fn count_in_table(k: TableId, tablets: Tablets) -> usize
@@ -74,13 +51,6 @@ pub fn count_in_table(k: TableId, tablets: Tablets) -> usize
         i += 1;
     }
     found
-}
-
-// A Hash tablet of the table, with the bucket.
-pub fn holds_bucket(k: TableId, bucket: u32, t: TabletDescriptor) -> bool
-    ensures { λ r. ⌜ r ≡ holdsBucket k bucket t ⌝ }
-{
-    (t.partition.kind == 0) & (in_table(k, t) & (t.partition.bucket == bucket))
 }
 
 // A Hash tablet of the table has the bucket.
@@ -118,19 +88,6 @@ pub fn judge_hash(tables: Tables, tablets: Tablets, t: TabletDescriptor) -> Answ
     }
     if (limit as usize) <= count_in_table(id, tablets) {
         return Answer::TabletCountExceeded(id, limit);
-    }
-    Answer::Applied
-}
-
-// The new tablet's range against that of one row.
-pub fn overlap_at(t: TabletDescriptor, old: TabletDescriptor) -> Answer
-    ensures { λ r. ⌜ r ≡ overlapAt t old ⌝ }
-{
-    let id = old.tablet_id;
-    if (old.partition.kind == 1)
-        & (in_table(t.table_id, old) & partitions_overlap(t.partition, old.partition))
-    {
-        return Answer::RangeOverlap(id);
     }
     Answer::Applied
 }

@@ -5,7 +5,7 @@ use mathlib.Core.List.{List}
 use Rattle.held.specs.Stores.{lentStore}
 use Rattle.held.specs.declared.Held.{Held}
 use Rattle.metadata.specs.declared.Store.{Store}
-use Rattle.tape.specs.Tape.{Done}
+use Rattle.tape_commands.specs.Commands.{Done}
 
 -- s is the opened store, last and the primed rows are what the run left, r the store that was read off them
 pub ends : (s : Store) (h : Held) (ns ts ps rs : List (List ℕ)) → lentStore h ns ts ps rs ≡ s → (l : List ℕ) (at : ℕ) (out new : List ℕ) (last : Held) (ns′ ts′ ps′ rs′ : List (List ℕ)) (r : Store) →

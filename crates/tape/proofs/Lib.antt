@@ -1,4 +1,3 @@
-pub mod Running
-pub mod History
 pub mod Begun
-pub mod Loop
+pub mod History
+pub mod Whole

@@ -1,34 +1,26 @@
 // The command tape: the run over a whole tape.
 ghost use mathlib.Core.Path.{_≡_};
 ghost use mathlib.Core.Bool.{true};
-ghost use Prim.Native.Nat.{_+_, _*_, _≤_, _<_};
-ghost use lib.ListN.{length, set};
-ghost use Rattle.held.specs.Stores.{lentStore, Whole, Empty};
-ghost use Rattle.metadata.specs.Answers.{reported};
-ghost use Rattle.tape.specs.Tape.{written, Done, ran, ranOut, TapeClaims};
+ghost use Prim.Native.Nat.{_*_, _≤_, _<_};
+ghost use lib.ListN.{length};
+ghost use Rattle.held.specs.Stores.{Empty};
+ghost use Rattle.tape.specs.Tape.{ran, ranOut, TapeClaims};
+ghost use Rattle.tape_commands.specs.Commands.{Done};
 ghost use Rattle.reading.specs.Reader.{readFrom, lines};
 ghost use Rattle.metadata.specs.Sound.{sound};
-use held::Held;
+use answer_numbers::write_answer;
 use held::no_nodes;
 use held::no_placements;
 use held::no_retirements;
 use held::no_rows;
 use held::no_tablets;
 use held::store_of;
-use lent_rows::NodeRow;
-use lent_rows::PlacementRow;
-use lent_rows::RetirementRow;
-use lent_rows::TabletRow;
-use metadata::Answer;
 use metadata::Store;
-use reading::Next;
 use reading::body_at;
 use reading::count_lines;
-use reading::next_at;
 use reading::open_tape;
 use reports::is_applied;
-use reports::report;
-use turns::take_turn;
+use tape_commands::run_commands;
 
 // A run of a whole tape: whether the opening was accepted, whether the list was too short for the answers, how many there are, and the store.
 pub struct Ran {
@@ -36,92 +28,6 @@ pub struct Ran {
     pub short: bool,
     pub lines: usize,
     pub store: Store,
-}
-
-fn wide(b: u8) -> u64
-    ensures { λ r. ⌜ r ≡ b ⌝ }
-{
-    b as u64
-}
-
-fn put(out: &mut [u64], at: usize, n: u64)
-    requires { ⌜ at < length (now out) ⌝ }
-    ensures { λ r. ⌜ (now (out .exit) ≡ set (now (out .entry)) at n) × (length (now (out .exit)) ≡ length (now (out .entry))) ⌝ }
-{
-    out[at] = n;
-}
-
-// Inner: the run and the opening show that there is room. An answer's four numbers from a place on.
-pub fn write_answer(out: &mut [u64], at: usize, answer: Answer)
-    requires { ⌜ at + 4 ≤ length (now out) ⌝ }
-    ensures { λ r. ⌜ (now (out .exit) ≡ written (now (out .entry)) at (reported answer)) × (length (now (out .exit)) ≡ length (now (out .entry))) ⌝ }
-{
-    let r = report(answer);
-    let operands = r.operands;
-    put(out, at, wide(r.number));
-    put(out, at + 1, operands[0]);
-    put(out, at + 2, operands[1]);
-    put(out, at + 3, operands[2]);
-}
-
-fn behind(place: usize, room: usize) -> usize
-    requires { ⌜ place + 4 ≤ room ⌝ }
-    ensures { λ r. ⌜ r ≡ place + 4 ⌝ }
-{
-    place + 4
-}
-
-// Inner: `run` shows that what is held is a sound store with all rows lent, and that there is room for every answer.
-pub fn run_commands(
-    start: Held,
-    nodes: &mut [NodeRow],
-    tablets: &mut [TabletRow],
-    placements: &mut [PlacementRow],
-    retirements: &mut [RetirementRow],
-    tape: &[u8],
-    at: usize,
-    out: &mut [u64],
-) -> Held
-    requires { ⌜ (sound (lentStore start (now nodes) (now tablets) (now placements) (now retirements)) ≡ true) × Whole (now nodes) (now tablets) (now placements) (now retirements) × (4 * lines (readFrom (now tape) at) ≤ length (now out)) ⌝ }
-    ensures { λ r. ⌜ Done (now (tape .entry)) (lentStore start (now (nodes .entry)) (now (tablets .entry)) (now (placements .entry)) (now (retirements .entry))) at (now (out .entry)) (lentStore r (now (nodes .exit)) (now (tablets .exit)) (now (placements .exit)) (now (retirements .exit))) (now (out .exit)) × Whole (now (nodes .exit)) (now (tablets .exit)) (now (placements .exit)) (now (retirements .exit)) ⌝ }
-{
-    let mut held = start;
-    let mut i = at;
-    let mut place: usize = 0;
-    while i < tape.len() {
-        match next_at(tape, i) {
-            Next::Whole(b, m) => {
-                let next = behind(place, out.len());
-                let turn = take_turn(
-                    held,
-                    nodes,
-                    tablets,
-                    placements,
-                    retirements,
-                    b,
-                    tape,
-                    i + 1,
-                );
-                let answer = turn.answer;
-                write_answer(out, place, answer);
-                held = turn.held;
-                i = m;
-                place = next;
-            }
-            Next::Unknown(b) => {
-                write_answer(out, place, Answer::BadTape(1, b));
-                return held;
-            }
-            Next::Cut(b) => {
-                write_answer(out, place, Answer::BadTape(2, b));
-                return held;
-            }
-            Next::End => {
-                return held;
-            }
-        }
-    }
-    held
 }
 
 // Inner: the same, from an opened store, whose four large tables have no rows.

@@ -1,6 +1,6 @@
 -- A command answered, then carried out where it is Applied: together the model's step. Assumes nothing.
 use Prim.Native.Nat.{ℕ}
-use mathlib.Core.Path.{_≡_, refl, sym, ap, _∙_}
+use mathlib.Core.Path.{_≡_, sym, ap, _∙_}
 use mathlib.Core.Bool.{Bool, true, false}
 use mathlib.Core.List.{List}
 use borrow.Author.Needs.{needs}
@@ -12,7 +12,6 @@ use Rattle.metadata.specs.Answers.{isApplied}
 use Rattle.metadata.specs.Model.{decide, step, view}
 use Rattle.metadata.specs.Sound.{sound}
 use Rattle.metadata.specs.declared.Answer.{Answer}
-use Rattle.metadata.specs.declared.Store.{Store}
 use Rattle.reading.specs.Reader.{commandAt}
 use Rattle.turns.specs.Taken.{Taken}
 

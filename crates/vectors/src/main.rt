@@ -1,10 +1,10 @@
 // Replays stored tapes through the library's run of a whole tape. Standard input has for each tape the lengths of its name and of its bytes, eight bytes each,
 // little-endian, then both; for each the program prints its name, its lines, and the final tables and marks. The expected output is the oracle's (oracle/README.md).
-use dump::LINE_ROOM;
+use dump_output::dump_store;
 use libc::STDIN_FILENO;
 use libc::STDOUT_FILENO;
 use metadata::Reported;
-use metadata::Store;
+use printing::emit;
 
 // Bytes of a name and of a tape, its lines, and their numbers, four for each.
 const NAME_ROOM: usize = 4096;
@@ -17,27 +17,6 @@ const NUMBER_ROOM: usize = 4096;
 
 fn put(text: &[u8]) {
     io::write_all(STDOUT_FILENO, text);
-}
-
-// The first bytes of a text.
-fn emit(text: &[u8], n: usize) {
-    if n <= text.len() {
-        io::write_all(STDOUT_FILENO, &text[..n]);
-    }
-}
-
-// The final tables and marks. No dump has as many lines as the loop would count.
-fn dump_store(s: Store) {
-    let mut line = [0u8; LINE_ROOM];
-    let mut k: usize = 0;
-    while k < usize::MAX {
-        let n = dump::put_dump_line(&mut line, s, k);
-        if n == 0 {
-            return;
-        }
-        emit(&line, n);
-        k += 1;
-    }
 }
 
 // A number of at most 255, as every answer's is.

@@ -2,9 +2,9 @@
 use Prim.Native.Nat.{_-_}
 use Rattle.metadata.specs.Rooms.{tableRoom}
 use Rattle.metadata.specs.Tables.{zeroTable}
-use Rattle.records.proofs.Twice.{Looking}
+use Rattle.laws.proofs.Twice.{Looking}
 use Rattle.admission.specs.Tests.{unset}
-use Rattle.admission.proofs.Front.{fronting}
+use Rattle.laws.proofs.Any.{looking-all}
 use Rattle.admission.proofs.any_unset.Statement.{statement}
 use Rattle.admission.proofs.any_unset.Tie as tie
 
@@ -15,34 +15,34 @@ abbrev μ-loop : tie.MeasureT-loop
 μ-loop n rows i₀ i = n - i
 
 loop-holds : tie.Need-loop-holds Inv-loop μ-loop
-loop-holds c = search fronting
+loop-holds c = search looking-all
 
 returns : tie.Need-returns Inv-loop μ-loop
-returns c = search fronting
+returns c = search looking-all
 
 mul-is-unset : tie.Need-mul-is-unset Inv-loop μ-loop
-mul-is-unset c = search fronting
+mul-is-unset c = search looking-all
 
 array-copy-out-is-unset : tie.Need-array-copy-out-is-unset Inv-loop μ-loop
-array-copy-out-is-unset c = search fronting
+array-copy-out-is-unset c = search looking-all
 
 is-unset-requires : tie.Need-is-unset-requires Inv-loop μ-loop
-is-unset-requires c κs = search fronting
+is-unset-requires c κs = search looking-all
 
 returns-2 : tie.Need-returns-2 Inv-loop μ-loop
-returns-2 c = search fronting
+returns-2 c = search looking-all
 
 add-i : tie.Need-add-i Inv-loop μ-loop
-add-i c = search fronting
+add-i c = search looking-all
 
 loop-less : tie.Need-loop-less Inv-loop μ-loop
-loop-less c = search fronting
+loop-less c = search looking-all
 
 loop-again : tie.Need-loop-again Inv-loop μ-loop
-loop-again c = search fronting
+loop-again c = search looking-all
 
 returns-3 : tie.Need-returns-3 Inv-loop μ-loop
-returns-3 c = search fronting
+returns-3 c = search looking-all
 
 pub any-unset-spec : {M : Type 1} → statement M
 any-unset-spec =

@@ -3,7 +3,7 @@ use Prim.Native.Nat.{_-_}
 use Rattle.metadata.specs.Commands.{sameTableId}
 use Rattle.metadata.specs.Rooms.{tableRoom}
 use Rattle.metadata.specs.Tables.{zeroTable}
-use Rattle.records.proofs.Twice.{Looking, looking}
+use Rattle.laws.proofs.Twice.{Looking, looking}
 use Rattle.admission.proofs.table_again.Statement.{statement}
 use Rattle.admission.proofs.table_again.Tie as tie
 

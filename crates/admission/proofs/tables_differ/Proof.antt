@@ -3,7 +3,7 @@ use Prim.Native.Nat.{_-_}
 use Rattle.metadata.specs.Commands.{sameTableId}
 use Rattle.metadata.specs.Rooms.{tableRoom}
 use Rattle.metadata.specs.Tables.{zeroTable}
-use Rattle.records.proofs.Twice.{Differing, differing}
+use Rattle.laws.proofs.Twice.{Differing, differing}
 use Rattle.admission.proofs.tables_differ.Statement.{statement}
 use Rattle.admission.proofs.tables_differ.Tie as tie
 

@@ -1,3 +1,4 @@
+-- `chunks::run_chunk` meets its contract. Assumes nothing.
 use Prim.Native.Nat.{_-_}
 use lib.ListN.{length}
 use borrow.Author.Needs.{needs}
@@ -6,14 +7,6 @@ use Rattle.turns.proofs.Places.{further-on}
 use Rattle.chunks.proofs.Feeding.{Feeding, feeding, feed-next, feed-long-after, feed-unknown}
 use Rattle.chunks.proofs.run_chunk.Statement.{statement}
 use Rattle.chunks.proofs.run_chunk.Tie as tie
-use Rattle.chunks.proofs.run_chunk.Reads as reads
-use Rattle.chunks.proofs.run_chunk.Lts as lts
-use Rattle.chunks.proofs.stands.Reads as stands-reads
-use Rattle.lines.proofs.put_line.Reads as put-line-reads
-use Rattle.reports.proofs.report.Reads as report-reads
-use Rattle.reading.proofs.next_at.Reads as next-at-reads
-use Rattle.std.proofs.num.wrapping_add_u64.Reads as wrapping-add-u64-reads
-use Rattle.turns.proofs.take_turn.Reads as take-turn-reads
 
 abbrev Inv-loop : tie.InvT-loop
 Inv-loop nodes₀ tablets₀ placements₀ retirements₀ chunk from first out₀ held₀ at₀ line₀ used₀ nodes tablets placements retirements out held at line used =
@@ -23,76 +16,58 @@ abbrev μ-loop : tie.MeasureT-loop
 μ-loop nodes₀ tablets₀ placements₀ retirements₀ chunk from first out₀ held₀ at₀ line₀ used₀ nodes tablets placements retirements out held at line used =
     length chunk - at
 
--- src/lib.rt:64:5
 loop-holds : tie.Need-loop-holds Inv-loop μ-loop
 loop-holds c = search feeding
 
--- src/lib.rt:65:12
 sub-if1 : tie.Need-sub-if1 Inv-loop μ-loop
 sub-if1 c = search feeding
 
--- src/lib.rt:66:13
 stands-requires : tie.Need-stands-requires Inv-loop μ-loop
 stands-requires c κs = search feeding
 
--- src/lib.rt:66:13
 same-length : tie.Need-same-length Inv-loop μ-loop
 same-length c = search feeding
 
--- src/lib.rt:66:13
 same-length-2 : tie.Need-same-length-2 Inv-loop μ-loop
 same-length-2 c = search feeding
 
--- src/lib.rt:66:13
 same-length-3 : tie.Need-same-length-3 Inv-loop μ-loop
 same-length-3 c = search feeding
 
--- src/lib.rt:66:13
 same-length-4 : tie.Need-same-length-4 Inv-loop μ-loop
 same-length-4 c = search feeding
 
--- src/lib.rt:66:13
 same-length-5 : tie.Need-same-length-5 Inv-loop μ-loop
 same-length-5 c = search feeding
 
--- src/lib.rt:66:13
 returns : tie.Need-returns Inv-loop μ-loop
 returns c = search feeding
 
--- src/lib.rt:68:15
 next-at-requires : tie.Need-next-at-requires Inv-loop μ-loop
 next-at-requires c κs = search feeding
 
--- src/lib.rt:69:25
 enum-known-b : tie.Need-enum-known-b Inv-loop μ-loop
 enum-known-b c = search feeding
 
--- src/lib.rt:70:95
 add-take-turn : tie.Need-add-take-turn Inv-loop μ-loop
 add-take-turn c = search feeding
 
--- src/lib.rt:70:21
 take-turn-requires : tie.Need-take-turn-requires Inv-loop μ-loop
 take-turn-requires c κs = search feeding
 
--- src/lib.rt:72:57
 report-requires : tie.Need-report-requires Inv-loop μ-loop
 report-requires c κs = search feeding
 
--- src/lib.rt:72:17
 put-line-requires : tie.Need-put-line-requires Inv-loop μ-loop
 put-line-requires c κs = search feeding
 
--- src/lib.rt:73:17
 wrapping-add-u64-requires : tie.Need-wrapping-add-u64-requires Inv-loop μ-loop
 wrapping-add-u64-requires c κs = search feeding
 
--- src/lib.rt:64:5
 loop-less : tie.Need-loop-less Inv-loop μ-loop
 loop-less c =
     further-on _ _ _ _ _ (c .before .before .before .before .before .before .before .before .before .before .before .before .before .before .before .before .before .before .before .next-at .ensures) (c .before .before .before .before .before .before .before .before .before .before .before .before .before .before .before .before .before .b .given .1)
 
--- src/lib.rt:64:5
 loop-again : tie.Need-loop-again Inv-loop μ-loop
 loop-again c = (
   feed-next _ _ _ _ _ _ _ _ _ _ (c .before .before .before .before .before .before .before .before .before .before .before .before .before .before .before .before .before .before .before .before .before .before .loop .inv .0) _ _ _ (c .before .before .before .before .before .before .before .before .before .before .before .before .before .before .before .before .before .before .before .next-at .ensures) (c .before .before .before .before .before .before .before .before .before .before .before .before .before .before .before .before .before .b .given .1) _ _ _ _ _ _
@@ -100,48 +75,38 @@ loop-again c = (
   c .before .before .before .before .before .before .before .before .before .before .before .take-turn .ensures .all,
 )
 
--- src/lib.rt:77:27
 enum-known-b-2 : tie.Need-enum-known-b-2 Inv-loop μ-loop
 enum-known-b-2 c = search feeding
 
--- src/lib.rt:78:57
 report-requires-2 : tie.Need-report-requires-2 Inv-loop μ-loop
 report-requires-2 c κs = search feeding
 
--- src/lib.rt:78:17
 put-line-requires-2 : tie.Need-put-line-requires-2 Inv-loop μ-loop
 put-line-requires-2 c κs = search feeding
 
--- src/lib.rt:79:17
 stands-requires-2 : tie.Need-stands-requires-2 Inv-loop μ-loop
 stands-requires-2 c κs = search feeding
 
--- src/lib.rt:79:17
 same-length-6 : tie.Need-same-length-6 Inv-loop μ-loop
 same-length-6 c =
     search (c .before .before .before .before .before .before .before .before .before .before .before .before .loop .inv .1, c .before .before .before .before .before .before .before .before .before .before .before .before .before .before .before .pre .1, needs)
 
--- src/lib.rt:79:17
 same-length-7 : tie.Need-same-length-7 Inv-loop μ-loop
 same-length-7 c =
     search (c .before .before .before .before .before .before .before .before .before .before .before .before .loop .inv .1, c .before .before .before .before .before .before .before .before .before .before .before .before .before .before .before .pre .1, needs)
 
--- src/lib.rt:79:17
 same-length-8 : tie.Need-same-length-8 Inv-loop μ-loop
 same-length-8 c =
     search (c .before .before .before .before .before .before .before .before .before .before .before .before .loop .inv .1, c .before .before .before .before .before .before .before .before .before .before .before .before .before .before .before .pre .1, needs)
 
--- src/lib.rt:79:17
 same-length-9 : tie.Need-same-length-9 Inv-loop μ-loop
 same-length-9 c =
     search (c .before .before .before .before .before .before .before .before .before .before .before .before .loop .inv .1, c .before .before .before .before .before .before .before .before .before .before .before .before .before .before .before .pre .1, needs)
 
--- src/lib.rt:79:17
 same-length-10 : tie.Need-same-length-10 Inv-loop μ-loop
 same-length-10 c =
     feed-long-after _ _ _ _ _ _ _ _ _ _ (c .before .before .before .before .before .before .before .before .before .before .before .before .loop .inv .0) _ _ _ (c .before .before .before .put-line2 .ensures)
 
--- src/lib.rt:79:17
 returns-2 : tie.Need-returns-2 Inv-loop μ-loop
 returns-2 c = (
   feed-unknown _ _ _ _ _ _ _ _ _ _ _ _ _ _ (c .before .before .before .before .before .before .before .before .before .before .before .before .loop .inv .0) _ _ (c .before .before .before .before .before .before .before .before .before .next-at .ensures) _ _ _ _ (c .stands2 .ensures) (c .before .before .before .before .before .before .before .b2 .given .1)
@@ -149,95 +114,72 @@ returns-2 c = (
   c .before .before .before .before .before .before .before .before .before .before .before .before .loop .inv .1,
 )
 
--- src/lib.rt:82:17
 enum-told : tie.Need-enum-told Inv-loop μ-loop
 enum-told c = search feeding
 
--- src/lib.rt:82:17
 stands-requires-3 : tie.Need-stands-requires-3 Inv-loop μ-loop
 stands-requires-3 c κs = search feeding
 
--- src/lib.rt:82:17
 same-length-11 : tie.Need-same-length-11 Inv-loop μ-loop
 same-length-11 c = search feeding
 
--- src/lib.rt:82:17
 same-length-12 : tie.Need-same-length-12 Inv-loop μ-loop
 same-length-12 c = search feeding
 
--- src/lib.rt:82:17
 same-length-13 : tie.Need-same-length-13 Inv-loop μ-loop
 same-length-13 c = search feeding
 
--- src/lib.rt:82:17
 same-length-14 : tie.Need-same-length-14 Inv-loop μ-loop
 same-length-14 c = search feeding
 
--- src/lib.rt:82:17
 same-length-15 : tie.Need-same-length-15 Inv-loop μ-loop
 same-length-15 c = search feeding
 
--- src/lib.rt:82:17
 returns-3 : tie.Need-returns-3 Inv-loop μ-loop
 returns-3 c = search feeding
 
--- src/lib.rt:85:17
 enum-told-2 : tie.Need-enum-told-2 Inv-loop μ-loop
 enum-told-2 c = search feeding
 
--- src/lib.rt:85:17
 stands-requires-4 : tie.Need-stands-requires-4 Inv-loop μ-loop
 stands-requires-4 c κs = search feeding
 
--- src/lib.rt:85:17
 same-length-16 : tie.Need-same-length-16 Inv-loop μ-loop
 same-length-16 c = search feeding
 
--- src/lib.rt:85:17
 same-length-17 : tie.Need-same-length-17 Inv-loop μ-loop
 same-length-17 c = search feeding
 
--- src/lib.rt:85:17
 same-length-18 : tie.Need-same-length-18 Inv-loop μ-loop
 same-length-18 c = search feeding
 
--- src/lib.rt:85:17
 same-length-19 : tie.Need-same-length-19 Inv-loop μ-loop
 same-length-19 c = search feeding
 
--- src/lib.rt:85:17
 same-length-20 : tie.Need-same-length-20 Inv-loop μ-loop
 same-length-20 c = search feeding
 
--- src/lib.rt:85:17
 returns-4 : tie.Need-returns-4 Inv-loop μ-loop
 returns-4 c = search feeding
 
--- src/lib.rt:89:5
 stands-requires-5 : tie.Need-stands-requires-5 Inv-loop μ-loop
 stands-requires-5 c κs = search feeding
 
--- src/lib.rt:46:1
 same-length-21 : tie.Need-same-length-21 Inv-loop μ-loop
 same-length-21 c = search feeding
 
--- src/lib.rt:46:1
 same-length-22 : tie.Need-same-length-22 Inv-loop μ-loop
 same-length-22 c = search feeding
 
--- src/lib.rt:46:1
 same-length-23 : tie.Need-same-length-23 Inv-loop μ-loop
 same-length-23 c = search feeding
 
--- src/lib.rt:46:1
 same-length-24 : tie.Need-same-length-24 Inv-loop μ-loop
 same-length-24 c = search feeding
 
--- src/lib.rt:46:1
 same-length-25 : tie.Need-same-length-25 Inv-loop μ-loop
 same-length-25 c = search feeding
 
--- src/lib.rt:46:1
 returns-5 : tie.Need-returns-5 Inv-loop μ-loop
 returns-5 c = search feeding
 

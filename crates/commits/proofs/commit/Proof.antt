@@ -1,84 +1,59 @@
+-- `commits::commit` meets its contract. Assumes nothing.
 use Rattle.commits.proofs.Steps.{committing}
 use Rattle.commits.proofs.commit.Statement.{statement}
 use Rattle.commits.proofs.commit.Tie as tie
-use Rattle.commits.proofs.commit.Reads as reads
-use Rattle.commits.proofs.commit.Lts as lts
-use Rattle.commits.proofs.commit_lifecycle.Reads as commit-lifecycle-reads
-use Rattle.commits.proofs.commit_naming.Reads as commit-naming-reads
-use Rattle.commits.proofs.commit_placement.Reads as commit-placement-reads
-use Rattle.commits.proofs.commit_registering.Reads as commit-registering-reads
-use Rattle.commits.proofs.commit_retirement.Reads as commit-retirement-reads
-use Rattle.commits.proofs.commit_tablet.Reads as commit-tablet-reads
 
--- src/lib.rt:144:9
 commit-naming-requires : tie.Need-commit-naming-requires
 commit-naming-requires c κs = search committing
 
--- src/lib.rt:144:9
 returns : tie.Need-returns
 returns c = search committing
 
--- src/lib.rt:147:9
 commit-registering-requires : tie.Need-commit-registering-requires
 commit-registering-requires c κs = search committing
 
--- src/lib.rt:147:9
 same-length : tie.Need-same-length
 same-length c = search committing
 
--- src/lib.rt:147:9
 returns-2 : tie.Need-returns-2
 returns-2 c = search committing
 
--- src/lib.rt:150:9
 commit-lifecycle-requires : tie.Need-commit-lifecycle-requires
 commit-lifecycle-requires c κs = search committing
 
--- src/lib.rt:150:9
 same-length-2 : tie.Need-same-length-2
 same-length-2 c = search committing
 
--- src/lib.rt:150:9
 returns-3 : tie.Need-returns-3
 returns-3 c = search committing
 
--- src/lib.rt:153:9
 commit-tablet-requires : tie.Need-commit-tablet-requires
 commit-tablet-requires c κs = search committing
 
--- src/lib.rt:153:9
 same-length-3 : tie.Need-same-length-3
 same-length-3 c = search committing
 
--- src/lib.rt:153:9
 returns-4 : tie.Need-returns-4
 returns-4 c = search committing
 
--- src/lib.rt:156:9
 commit-placement-requires : tie.Need-commit-placement-requires
 commit-placement-requires c κs = search committing
 
--- src/lib.rt:156:9
 same-length-4 : tie.Need-same-length-4
 same-length-4 c = search committing
 
--- src/lib.rt:156:9
 returns-5 : tie.Need-returns-5
 returns-5 c = search committing
 
--- src/lib.rt:159:9
 commit-retirement-requires : tie.Need-commit-retirement-requires
 commit-retirement-requires c κs = search committing
 
--- src/lib.rt:159:9
 same-length-5 : tie.Need-same-length-5
 same-length-5 c = search committing
 
--- src/lib.rt:159:9
 returns-6 : tie.Need-returns-6
 returns-6 c = search committing
 
--- src/lib.rt:130:1
 returns-7 : tie.Need-returns-7
 returns-7 c = search committing
 

@@ -1,7 +1,7 @@
 -- `dump::put_from_placements` meets its contract. Assumes nothing.
 use borrow.Author.Needs.{needs}
 use Rattle.metadata.specs.Tables.{zeroPlacement}
-use Rattle.row_lines.specs.RowLines.{placementLine}
+use Rattle.placement_lines.specs.PlacementLines.{placementLine}
 use Rattle.dump.specs.Dump.{fromRetired, fromPlacements}
 use Rattle.dump.proofs.Places.{row-put, later-put}
 use Rattle.dump.proofs.put_from_placements.Statement.{statement}

@@ -1,15 +1,12 @@
+-- `held::no_placement` meets its contract. Assumes nothing.
 use borrow.Author.Needs.{needs}
 use Rattle.held.proofs.Rows.{no-placement}
 use Rattle.held.proofs.no_placement.Statement.{statement}
 use Rattle.held.proofs.no_placement.Tie as tie
-use Rattle.held.proofs.no_placement.Reads as reads
-use Rattle.held.proofs.no_placement.Lts as lts
 
--- src/lib.rt:89:5
 array-write-row : tie.Need-array-write-row
 array-write-row c = search needs
 
--- src/lib.rt:85:1
 returns : tie.Need-returns
 returns c = search (needs, no-placement)
 

@@ -1,17 +1,13 @@
+-- `held::no_placements` meets its contract. Assumes nothing.
 use borrow.Author.Needs.{needs}
 use Rattle.lent_rows.specs.Lent.{placementRow}
 use Rattle.held.proofs.Rows.{all-same}
 use Rattle.held.proofs.no_placements.Statement.{statement}
 use Rattle.held.proofs.no_placements.Tie as tie
-use Rattle.held.proofs.no_placements.Reads as reads
-use Rattle.held.proofs.no_placements.Lts as lts
-use Rattle.held.proofs.no_placement.Reads as no-placement-reads
 
--- src/lib.rt:96:9
 no-placement-requires : tie.Need-no-placement-requires
 no-placement-requires c κs = search needs
 
--- src/lib.rt:93:1
 returns : tie.Need-returns
 returns c = search (needs, all-same placementRow)
 

@@ -1,11 +1,9 @@
+-- `held::no_rows` meets its contract. Assumes nothing.
 use borrow.Author.Needs.{needs}
 use Rattle.held.proofs.Rows.{opens}
 use Rattle.held.proofs.no_rows.Statement.{statement}
 use Rattle.held.proofs.no_rows.Tie as tie
-use Rattle.held.proofs.no_rows.Reads as reads
-use Rattle.held.proofs.no_rows.Lts as lts
 
--- src/lib.rt:114:1
 returns : tie.Need-returns
 returns c = search (needs, opens)
 

@@ -1,17 +1,13 @@
+-- `held::no_tablets` meets its contract. Assumes nothing.
 use borrow.Author.Needs.{needs}
 use Rattle.lent_rows.specs.Lent.{tabletRow}
 use Rattle.held.proofs.Rows.{all-same}
 use Rattle.held.proofs.no_tablets.Statement.{statement}
 use Rattle.held.proofs.no_tablets.Tie as tie
-use Rattle.held.proofs.no_tablets.Reads as reads
-use Rattle.held.proofs.no_tablets.Lts as lts
-use Rattle.held.proofs.no_tablet.Reads as no-tablet-reads
 
--- src/lib.rt:81:9
 no-tablet-requires : tie.Need-no-tablet-requires
 no-tablet-requires c κs = search needs
 
--- src/lib.rt:78:1
 returns : tie.Need-returns
 returns c = search (needs, all-same tabletRow)
 

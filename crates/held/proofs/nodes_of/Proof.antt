@@ -1,3 +1,4 @@
+-- `held::nodes_of` meets its contract. Assumes nothing.
 use Prim.Native.Nat.{_-_}
 use mathlib.Core.List.{map}
 use lib.ListN.{length-map}
@@ -9,10 +10,6 @@ use Rattle.metadata.specs.declared.NodeDescriptor.{NodeDescriptor}
 use Rattle.held.proofs.Rows.{nodes-read}
 use Rattle.held.proofs.nodes_of.Statement.{statement}
 use Rattle.held.proofs.nodes_of.Tie as tie
-use Rattle.held.proofs.nodes_of.Reads as reads
-use Rattle.held.proofs.nodes_of.Lts as lts
-use Rattle.lent_rows.proofs.node_row.Reads as node-row-reads
-use Rattle.records.proofs.zero_node.Reads as zero-node-reads
 
 abbrev Inv-loop : tie.InvT-loop
 Inv-loop rows count out₀ i₀ out i = Filling blankNode (λ (x : NodeDescriptor). x) nodeRoom nodeRoom (map nodeRow rows) out i
@@ -20,39 +17,30 @@ Inv-loop rows count out₀ i₀ out i = Filling blankNode (λ (x : NodeDescripto
 abbrev μ-loop : tie.MeasureT-loop
 μ-loop rows count out₀ i₀ out i = nodeRoom - i
 
--- src/lib.rt:119:9
 zero-node-requires : tie.Need-zero-node-requires Inv-loop μ-loop
 zero-node-requires c κs = search filling
 
--- src/lib.rt:122:5
 loop-holds : tie.Need-loop-holds Inv-loop μ-loop
 loop-holds c = search (length-map, filling)
 
--- src/lib.rt:123:18
 node-row-requires : tie.Need-node-row-requires Inv-loop μ-loop
 node-row-requires c κs = search filling
 
--- src/lib.rt:123:9
 mul-out : tie.Need-mul-out Inv-loop μ-loop
 mul-out c = search filling
 
--- src/lib.rt:123:9
 array-set-from-out : tie.Need-array-set-from-out Inv-loop μ-loop
 array-set-from-out c = search filling
 
--- src/lib.rt:124:9
 add-i : tie.Need-add-i Inv-loop μ-loop
 add-i c = search filling
 
--- src/lib.rt:122:5
 loop-less : tie.Need-loop-less Inv-loop μ-loop
 loop-less c = search filling
 
--- src/lib.rt:122:5
 loop-again : tie.Need-loop-again Inv-loop μ-loop
 loop-again c = search filling
 
--- src/lib.rt:115:1
 returns : tie.Need-returns Inv-loop μ-loop
 returns c = search (filling, nodes-read)
 

@@ -1,3 +1,4 @@
+-- `held::retirements_of` meets its contract. Assumes nothing.
 use Prim.Native.Nat.{_-_}
 use mathlib.Core.List.{map}
 use lib.ListN.{length-map}
@@ -9,10 +10,6 @@ use Rattle.metadata.specs.declared.RetiredReplicaLifetime.{RetiredReplicaLifeti
 use Rattle.held.proofs.Rows.{retirements-read}
 use Rattle.held.proofs.retirements_of.Statement.{statement}
 use Rattle.held.proofs.retirements_of.Tie as tie
-use Rattle.held.proofs.retirements_of.Reads as reads
-use Rattle.held.proofs.retirements_of.Lts as lts
-use Rattle.lent_rows.proofs.retirement_row.Reads as retirement-row-reads
-use Rattle.records.proofs.zero_retirement.Reads as zero-retirement-reads
 
 abbrev Inv-loop : tie.InvT-loop
 Inv-loop rows count out₀ i₀ out i = Filling zeroRetirement (λ (x : RetiredReplicaLifetime). x) retirementRoom retirementRoom (map retirementRow rows) out i
@@ -20,39 +17,30 @@ Inv-loop rows count out₀ i₀ out i = Filling zeroRetirement (λ (x : RetiredR
 abbrev μ-loop : tie.MeasureT-loop
 μ-loop rows count out₀ i₀ out i = retirementRoom - i
 
--- src/lib.rt:161:9
 zero-retirement-requires : tie.Need-zero-retirement-requires Inv-loop μ-loop
 zero-retirement-requires c κs = search filling
 
--- src/lib.rt:164:5
 loop-holds : tie.Need-loop-holds Inv-loop μ-loop
 loop-holds c = search (length-map, filling)
 
--- src/lib.rt:165:18
 retirement-row-requires : tie.Need-retirement-row-requires Inv-loop μ-loop
 retirement-row-requires c κs = search filling
 
--- src/lib.rt:165:9
 mul-out : tie.Need-mul-out Inv-loop μ-loop
 mul-out c = search filling
 
--- src/lib.rt:165:9
 array-set-from-out : tie.Need-array-set-from-out Inv-loop μ-loop
 array-set-from-out c = search filling
 
--- src/lib.rt:166:9
 add-i : tie.Need-add-i Inv-loop μ-loop
 add-i c = search filling
 
--- src/lib.rt:164:5
 loop-less : tie.Need-loop-less Inv-loop μ-loop
 loop-less c = search filling
 
--- src/lib.rt:164:5
 loop-again : tie.Need-loop-again Inv-loop μ-loop
 loop-again c = search filling
 
--- src/lib.rt:157:1
 returns : tie.Need-returns Inv-loop μ-loop
 returns c = search (filling, retirements-read)
 

@@ -1,3 +1,4 @@
+-- `lent_placements::lookup_placement` meets its contract. Assumes nothing.
 use borrow.Author.Needs.{needs}
 use mathlib.Core.List.{[]}
 use Rattle.lent_rows.specs.Lent.{placementRow}
@@ -6,37 +7,25 @@ use Rattle.metadata.specs.Tables.{placementKey}
 use Rattle.rows.proofs.Lookup.{not-there, no-row, is-there, the-row}
 use Rattle.lent_placements.proofs.lookup_placement.Statement.{statement}
 use Rattle.lent_placements.proofs.lookup_placement.Tie as tie
-use Rattle.lent_placements.proofs.lookup_placement.Reads as reads
-use Rattle.lent_placements.proofs.lookup_placement.Lts as lts
-use Rattle.lent_rows.proofs.placement_row.Reads as placement-row-reads
-use Rattle.lent_placements.proofs.find_placement.Reads as find-placement-reads
-use Rattle.records.proofs.zero_placement.Reads as zero-placement-reads
 
--- src/lib.rt:58:24
 find-placement-requires : tie.Need-find-placement-requires
 find-placement-requires c κs = search needs
 
--- src/lib.rt:58:19
 enum-known-i : tie.Need-enum-known-i
 enum-known-i c = search needs
 
--- src/lib.rt:59:13
 enum-told : tie.Need-enum-told
 enum-told c = search needs
 
--- src/lib.rt:59:13
 zero-placement-requires : tie.Need-zero-placement-requires
 zero-placement-requires c κs = search needs
 
--- src/lib.rt:60:9
 returns : tie.Need-returns
 returns c = search (needs, not-there placementKey, no-row placementKey)
 
--- src/lib.rt:62:9
 placement-row-requires : tie.Need-placement-row-requires
 placement-row-requires c κs = search (needs, found-inside placementRow [])
 
--- src/lib.rt:55:1
 returns-2 : tie.Need-returns-2
 returns-2 c = search (needs, is-there placementKey, the-row placementKey)
 

@@ -1,3 +1,4 @@
+-- `lent_retirements::lookup_retirement` meets its contract. Assumes nothing.
 use borrow.Author.Needs.{needs}
 use mathlib.Core.List.{[]}
 use Rattle.lent_rows.specs.Lent.{retirementRow}
@@ -6,37 +7,25 @@ use Rattle.metadata.specs.Tables.{retirementKey}
 use Rattle.rows.proofs.Lookup.{not-there, no-row, is-there, the-row}
 use Rattle.lent_retirements.proofs.lookup_retirement.Statement.{statement}
 use Rattle.lent_retirements.proofs.lookup_retirement.Tie as tie
-use Rattle.lent_retirements.proofs.lookup_retirement.Reads as reads
-use Rattle.lent_retirements.proofs.lookup_retirement.Lts as lts
-use Rattle.lent_retirements.proofs.find_retirement.Reads as find-retirement-reads
-use Rattle.lent_rows.proofs.retirement_row.Reads as retirement-row-reads
-use Rattle.records.proofs.zero_retirement.Reads as zero-retirement-reads
 
--- src/lib.rt:65:24
 find-retirement-requires : tie.Need-find-retirement-requires
 find-retirement-requires c κs = search needs
 
--- src/lib.rt:65:19
 enum-known-i : tie.Need-enum-known-i
 enum-known-i c = search needs
 
--- src/lib.rt:66:13
 enum-told : tie.Need-enum-told
 enum-told c = search needs
 
--- src/lib.rt:66:13
 zero-retirement-requires : tie.Need-zero-retirement-requires
 zero-retirement-requires c κs = search needs
 
--- src/lib.rt:67:9
 returns : tie.Need-returns
 returns c = search (needs, not-there retirementKey, no-row retirementKey)
 
--- src/lib.rt:69:9
 retirement-row-requires : tie.Need-retirement-row-requires
 retirement-row-requires c κs = search (needs, found-inside retirementRow [])
 
--- src/lib.rt:57:1
 returns-2 : tie.Need-returns-2
 returns-2 c = search (needs, is-there retirementKey, the-row retirementKey)
 

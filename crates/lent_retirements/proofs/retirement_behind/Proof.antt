@@ -1,3 +1,4 @@
+-- `lent_retirements::retirement_behind` meets its contract. Assumes nothing.
 use Prim.Native.Nat.{_-_}
 use mathlib.Core.List.{map}
 use lib.ListN.{length, length-map}
@@ -7,9 +8,6 @@ use Rattle.lent_retirements.specs.Behind.{isBehind}
 use Rattle.lent_rows.specs.Lent.{retirementRow}
 use Rattle.lent_retirements.proofs.retirement_behind.Statement.{statement}
 use Rattle.lent_retirements.proofs.retirement_behind.Tie as tie
-use Rattle.lent_retirements.proofs.retirement_behind.Reads as reads
-use Rattle.lent_retirements.proofs.retirement_behind.Lts as lts
-use Rattle.lent_retirements.proofs.retirement_after.Reads as retirement-after-reads
 
 abbrev Inv-loop : tie.InvT-loop
 Inv-loop rows count group replica i₀ i = Searching zeroRetirement (isBehind group replica) (length rows) count (map retirementRow rows) i
@@ -17,35 +15,27 @@ Inv-loop rows count group replica i₀ i = Searching zeroRetirement (isBehind gr
 abbrev μ-loop : tie.MeasureT-loop
 μ-loop rows count group replica i₀ i = count - i
 
--- src/lib.rt:86:5
 loop-holds : tie.Need-loop-holds Inv-loop μ-loop
 loop-holds c = search (length-map, searching)
 
--- src/lib.rt:88:13
 returns : tie.Need-returns Inv-loop μ-loop
 returns c = search searching
 
--- src/lib.rt:90:12
 retirement-after-requires : tie.Need-retirement-after-requires Inv-loop μ-loop
 retirement-after-requires c κs = search searching
 
--- src/lib.rt:91:13
 returns-2 : tie.Need-returns-2 Inv-loop μ-loop
 returns-2 c = search searching
 
--- src/lib.rt:93:9
 add-i : tie.Need-add-i Inv-loop μ-loop
 add-i c = search searching
 
--- src/lib.rt:86:5
 loop-less : tie.Need-loop-less Inv-loop μ-loop
 loop-less c = search searching
 
--- src/lib.rt:86:5
 loop-again : tie.Need-loop-again Inv-loop μ-loop
 loop-again c = search searching
 
--- src/lib.rt:82:1
 returns-3 : tie.Need-returns-3 Inv-loop μ-loop
 returns-3 c = search searching
 

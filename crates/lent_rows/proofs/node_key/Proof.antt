@@ -1,24 +1,18 @@
+-- `lent_rows::node_key` meets its contract. Assumes nothing.
 use borrow.Author.Needs.{needs}
 use Rattle.lent_rows.proofs.Fields.{node-id-got}
 use Rattle.lent_rows.proofs.node_key.Statement.{statement}
 use Rattle.lent_rows.proofs.node_key.Tie as tie
-use Rattle.lent_rows.proofs.node_key.Reads as reads
-use Rattle.lent_rows.proofs.node_key.Lts as lts
-use Rattle.decode.proofs.number8.Reads as number8-reads
 
--- src/lib.rt:48:21
 mul-number8 : tie.Need-mul-number8
 mul-number8 c = search needs
 
--- src/lib.rt:48:21
 shared-slice-element-number8 : tie.Need-shared-slice-element-number8
 shared-slice-element-number8 c = search needs
 
--- src/lib.rt:48:5
 number8-requires : tie.Need-number8-requires
 number8-requires c κs = search needs
 
--- src/lib.rt:44:1
 returns : tie.Need-returns
 returns c = search (needs, node-id-got)
 

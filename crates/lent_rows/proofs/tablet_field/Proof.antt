@@ -1,9 +1,8 @@
+-- `lent_rows::tablet_field` meets its contract. Assumes nothing.
 use Prim.Native.Nat.{_-_}
 use Rattle.decode.proofs.Fields.{Filling, filling}
 use Rattle.lent_rows.proofs.tablet_field.Statement.{statement}
 use Rattle.lent_rows.proofs.tablet_field.Tie as tie
-use Rattle.lent_rows.proofs.tablet_field.Reads as reads
-use Rattle.lent_rows.proofs.tablet_field.Lts as lts
 
 abbrev Inv-loop : tie.InvT-loop
 Inv-loop tape at out₀ i₀ out i = Filling tape at 107 out i
@@ -11,35 +10,27 @@ Inv-loop tape at out₀ i₀ out i = Filling tape at 107 out i
 abbrev μ-loop : tie.MeasureT-loop
 μ-loop tape at out₀ i₀ out i = 107 - i
 
--- src/lib.rt:112:5
 loop-holds : tie.Need-loop-holds Inv-loop μ-loop
 loop-holds c = search filling
 
--- src/lib.rt:113:23
 add-out : tie.Need-add-out Inv-loop μ-loop
 add-out c = search filling
 
--- src/lib.rt:113:18
 shared-slice-read-out : tie.Need-shared-slice-read-out Inv-loop μ-loop
 shared-slice-read-out c = search filling
 
--- src/lib.rt:113:9
 array-write-out : tie.Need-array-write-out Inv-loop μ-loop
 array-write-out c = search filling
 
--- src/lib.rt:114:9
 add-i : tie.Need-add-i Inv-loop μ-loop
 add-i c = search filling
 
--- src/lib.rt:112:5
 loop-less : tie.Need-loop-less Inv-loop μ-loop
 loop-less c = search filling
 
--- src/lib.rt:112:5
 loop-again : tie.Need-loop-again Inv-loop μ-loop
 loop-again c = search filling
 
--- src/lib.rt:106:1
 returns : tie.Need-returns Inv-loop μ-loop
 returns c = search filling
 

@@ -1,15 +1,12 @@
+-- `lent_rows::with_lifecycle` meets its contract. Assumes nothing.
 use borrow.Author.Needs.{needs}
 use Rattle.lent_rows.proofs.Fields.{node-moved}
 use Rattle.lent_rows.proofs.with_lifecycle.Statement.{statement}
 use Rattle.lent_rows.proofs.with_lifecycle.Tie as tie
-use Rattle.lent_rows.proofs.with_lifecycle.Reads as reads
-use Rattle.lent_rows.proofs.with_lifecycle.Lts as lts
 
--- src/lib.rt:76:5
 array-write-moved : tie.Need-array-write-moved
 array-write-moved c = search needs
 
--- src/lib.rt:72:1
 returns : tie.Need-returns
 returns c = search (needs, node-moved)
 

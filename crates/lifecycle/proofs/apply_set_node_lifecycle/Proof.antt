@@ -1,6 +1,6 @@
 -- `lifecycle::apply_set_node_lifecycle` meets its contract. Assumes nothing.
 use borrow.Author.Needs.{needs}
-use Rattle.lifecycle.proofs.Changes.{applied-known}
+use Rattle.step_laws.proofs.Moved.{applied-known}
 use Rattle.naming.proofs.Decision.{changed, unchanged}
 use Rattle.lifecycle.proofs.apply_set_node_lifecycle.Statement.{statement}
 use Rattle.lifecycle.proofs.apply_set_node_lifecycle.Tie as tie

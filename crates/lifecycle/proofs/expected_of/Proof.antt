@@ -1,6 +1,6 @@
 -- `lifecycle::expected_of` meets its contract. Assumes nothing.
 use borrow.Author.Needs.{needs}
-use Rattle.lifecycle.proofs.Advance.{unplaced, placed}
+use Rattle.moves.proofs.Advance.{unplaced, placed}
 use Rattle.lifecycle.proofs.expected_of.Statement.{statement}
 use Rattle.lifecycle.proofs.expected_of.Tie as tie
 

@@ -1,6 +1,6 @@
 -- `lifecycle::judge_lifecycle` meets its contract. Assumes nothing.
 use borrow.Author.Needs.{needs}
-use Rattle.lifecycle.proofs.Advance.{leaving, moving-on}
+use Rattle.moves.proofs.Advance.{leaving, moving-on}
 use Rattle.lifecycle.proofs.judge_lifecycle.Statement.{statement}
 use Rattle.lifecycle.proofs.judge_lifecycle.Tie as tie
 

@@ -1,6 +1,6 @@
 -- `lifecycle::moved_nodes` meets its contract. Assumes nothing.
 use borrow.Author.Needs.{needs}
-use Rattle.lifecycle.proofs.Changes.{never-missing, row-moved}
+use Rattle.step_laws.proofs.Moved.{never-missing, row-moved}
 use Rattle.lifecycle.proofs.moved_nodes.Statement.{statement}
 use Rattle.lifecycle.proofs.moved_nodes.Tie as tie
 

@@ -7,7 +7,7 @@ use Rattle.metadata.specs.Tables.{blankTablet, placementOf, desired}
 use Rattle.metadata.specs.Nodes.{expectedAt, stillExpected}
 use Rattle.metadata.specs.declared.TabletDescriptor.{TabletDescriptor}
 use Rattle.metadata.proofs.Judging.{Judging, judging, pass}
-use Rattle.lifecycle.proofs.Advance.{inside, by-its-row}
+use Rattle.moves.proofs.Advance.{inside, by-its-row}
 use Rattle.lifecycle.proofs.still_expected.Statement.{statement}
 use Rattle.lifecycle.proofs.still_expected.Tie as tie
 

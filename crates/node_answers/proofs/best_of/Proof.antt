@@ -3,7 +3,7 @@ use Prim.Native.Nat.{_-_}
 use mathlib.Core.List.{map}
 use lib.ListN.{length, length-map}
 use Rattle.labels.specs.Picks.{chosenNodes}
-use Rattle.labels.proofs.Choice.{Comparing, comparing}
+use Rattle.picking.proofs.Choice.{Comparing, comparing}
 use Rattle.lent_rows.specs.Lent.{nodeRow}
 use Rattle.metadata.specs.Tables.{blankNode}
 use Rattle.node_answers.proofs.Turns.{compared}

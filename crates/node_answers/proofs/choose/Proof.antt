@@ -1,7 +1,7 @@
 -- `node_answers::choose` meets its contract. Assumes nothing.
 use borrow.Author.Needs.{needs}
 use Prim.Native.Nat.{_-_}
-use Rattle.labels.proofs.Choice.{Picking, pick-start, pick-stop, pick-more, pick-end}
+use Rattle.picking.proofs.Choice.{Picking, pick-start, pick-stop, pick-more, pick-end}
 use Rattle.lent_rows.specs.Lent.{lentNodes}
 use Rattle.metadata.specs.Rooms.{initialReplicationFactor}
 use Rattle.metadata.specs.Model.{viewNodes}

@@ -7,7 +7,7 @@ use lib.ListN.{length, length-map}
 use Rattle.lent_rows.specs.Lent.{nodeRow}
 use Rattle.metadata.specs.Tables.{blankNode}
 use Rattle.metadata.specs.declared.Clash.the-variants.{Nothing}
-use Rattle.registering.proofs.Endpoints.{Fields, Nodes-before, fields-start, fields-skip, fields-stop, fields-end, rows-start, rows-end, rows-full}
+use Rattle.clashes.proofs.Endpoints.{Fields, Nodes-before, fields-start, fields-skip, fields-stop, fields-end, rows-start, rows-end, rows-full}
 use Rattle.node_answers.proofs.Turns.{row-passed, row-clashes}
 use Rattle.node_answers.proofs.clash.Statement.{statement}
 use Rattle.node_answers.proofs.clash.Tie as tie

@@ -1,6 +1,6 @@
 -- `node_answers::judge_lifecycle` meets its contract. Assumes nothing.
 use borrow.Author.Needs.{needs}
-use Rattle.lifecycle.proofs.Advance.{leaving, moving-on}
+use Rattle.moves.proofs.Advance.{leaving, moving-on}
 use Rattle.node_answers.proofs.judge_lifecycle.Statement.{statement}
 use Rattle.node_answers.proofs.judge_lifecycle.Tie as tie
 

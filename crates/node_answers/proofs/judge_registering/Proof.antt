@@ -1,7 +1,7 @@
 -- `node_answers::judge_registering` meets its contract. Assumes nothing.
 use borrow.Author.Needs.{needs}
 use lib.ListN.{length-map}
-use Rattle.registering.proofs.Entering.{new-among, new-id, leaving, moving-on}
+use Rattle.entering.proofs.Entering.{new-among, new-id, leaving, moving-on}
 use Rattle.node_answers.proofs.judge_registering.Statement.{statement}
 use Rattle.node_answers.proofs.judge_registering.Tie as tie
 

@@ -1,6 +1,6 @@
 -- `node_answers::pick_nodes` meets its contract. Assumes nothing.
 use borrow.Author.Needs.{needs}
-use Rattle.labels.proofs.Places.{nobody-picked, all-picked}
+use Rattle.picking.proofs.Places.{nobody-picked, all-picked}
 use Rattle.node_answers.proofs.pick_nodes.Statement.{statement}
 use Rattle.node_answers.proofs.pick_nodes.Tie as tie
 

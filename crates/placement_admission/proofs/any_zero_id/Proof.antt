@@ -2,9 +2,9 @@
 use Prim.Native.Nat.{_-_}
 use Rattle.metadata.specs.Rooms.{replicaRoom}
 use Rattle.metadata.specs.Tables.{zeroReplica}
-use Rattle.records.proofs.Twice.{Looking}
+use Rattle.laws.proofs.Twice.{Looking}
 use Rattle.placement_admission.specs.Tests.{zeroInside}
-use Rattle.admission.proofs.Front.{fronting}
+use Rattle.laws.proofs.Any.{looking-all}
 use Rattle.placement_admission.proofs.any_zero_id.Statement.{statement}
 use Rattle.placement_admission.proofs.any_zero_id.Tie as tie
 
@@ -15,34 +15,34 @@ abbrev μ-loop : tie.MeasureT-loop
 μ-loop n replicas to i₀ i = to - i
 
 loop-holds : tie.Need-loop-holds Inv-loop μ-loop
-loop-holds c = search fronting
+loop-holds c = search looking-all
 
 returns : tie.Need-returns Inv-loop μ-loop
-returns c = search fronting
+returns c = search looking-all
 
 mul-zero-inside : tie.Need-mul-zero-inside Inv-loop μ-loop
-mul-zero-inside c = search fronting
+mul-zero-inside c = search looking-all
 
 array-copy-out-zero-inside : tie.Need-array-copy-out-zero-inside Inv-loop μ-loop
-array-copy-out-zero-inside c = search fronting
+array-copy-out-zero-inside c = search looking-all
 
 zero-inside-requires : tie.Need-zero-inside-requires Inv-loop μ-loop
-zero-inside-requires c κs = search fronting
+zero-inside-requires c κs = search looking-all
 
 returns-2 : tie.Need-returns-2 Inv-loop μ-loop
-returns-2 c = search fronting
+returns-2 c = search looking-all
 
 add-i : tie.Need-add-i Inv-loop μ-loop
-add-i c = search fronting
+add-i c = search looking-all
 
 loop-less : tie.Need-loop-less Inv-loop μ-loop
-loop-less c = search fronting
+loop-less c = search looking-all
 
 loop-again : tie.Need-loop-again Inv-loop μ-loop
-loop-again c = search fronting
+loop-again c = search looking-all
 
 returns-3 : tie.Need-returns-3 Inv-loop μ-loop
-returns-3 c = search fronting
+returns-3 c = search looking-all
 
 pub any-zero-id-spec : {M : Type 1} → statement M
 any-zero-id-spec =

@@ -1,6 +1,6 @@
 -- `placement_admission::placement_zero_id` meets its contract. Assumes nothing.
 use borrow.Author.Needs.{needs}
-use Rattle.placement_admission.proofs.Both.{or-by}
+use Rattle.laws.proofs.Bools.{or-by}
 use Rattle.placement_admission.proofs.placement_zero_id.Statement.{statement}
 use Rattle.placement_admission.proofs.placement_zero_id.Tie as tie
 

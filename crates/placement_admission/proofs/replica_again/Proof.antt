@@ -2,7 +2,7 @@
 use Prim.Native.Nat.{_-_}
 use Rattle.metadata.specs.Rooms.{replicaRoom}
 use Rattle.metadata.specs.Tables.{zeroReplica}
-use Rattle.records.proofs.Twice.{Looking, looking}
+use Rattle.laws.proofs.Twice.{Looking, looking}
 use Rattle.placement_admission.specs.Tests.{sharesId}
 use Rattle.placement_admission.proofs.replica_again.Statement.{statement}
 use Rattle.placement_admission.proofs.replica_again.Tie as tie

@@ -2,7 +2,7 @@
 use borrow.Author.Needs.{needs}
 use Rattle.laws.specs.Tests.{allOf}
 use Rattle.metadata.specs.Commands.{replicasAdmitted}
-use Rattle.records.proofs.Bools.{and-both}
+use Rattle.laws.proofs.Bools.{and-both}
 use Rattle.placement_admission.proofs.Both.{both-differ}
 use Rattle.placement_admission.proofs.replicas_admitted.Statement.{statement}
 use Rattle.placement_admission.proofs.replicas_admitted.Tie as tie

@@ -2,7 +2,7 @@
 use Prim.Native.Nat.{_-_}
 use Rattle.metadata.specs.Rooms.{replicaRoom}
 use Rattle.metadata.specs.Tables.{zeroReplica}
-use Rattle.records.proofs.Twice.{Differing, differing}
+use Rattle.laws.proofs.Twice.{Differing, differing}
 use Rattle.placement_admission.specs.Tests.{sharesId}
 use Rattle.placement_admission.proofs.replicas_differ.Statement.{statement}
 use Rattle.placement_admission.proofs.replicas_differ.Tie as tie

@@ -5,8 +5,8 @@ use Rattle.lent_rows.specs.Lent.{lentNodes}
 use Rattle.metadata.specs.Tables.{zeroReplica}
 use Rattle.metadata.specs.Rooms.{replicaRoom}
 use Rattle.metadata.specs.Model.{viewNodes}
-use Rattle.standing.specs.Standing.{hostFound}
-use Rattle.standing.proofs.Hosting.{host-filled}
+use Rattle.rows.specs.Results.{hostFound}
+use Rattle.copies.proofs.Hosting.{host-filled}
 use Rattle.placement_answers.proofs.hosts_of.Statement.{statement}
 use Rattle.placement_answers.proofs.hosts_of.Tie as tie
 

@@ -1,6 +1,6 @@
 -- `placement_answers::judge_leader` meets its contract. Assumes nothing.
 use borrow.Author.Needs.{needs}
-use Rattle.standing.proofs.Checks.{leader-judged}
+use Rattle.copies.proofs.Standing.{leader-judged}
 use Rattle.placement_answers.proofs.judge_leader.Statement.{statement}
 use Rattle.placement_answers.proofs.judge_leader.Tie as tie
 

@@ -2,7 +2,7 @@
 use borrow.Author.Needs.{needs}
 use Rattle.metadata.specs.Rooms.{retirementRoom}
 use Rattle.lent_rows.specs.Lent.{retirementRow}
-use Rattle.retirements.proofs.RetirementLaws.{group-unknown, still-wanted, retirement-known, retirement-unknown}
+use Rattle.retired.proofs.RetirementLaws.{group-unknown, still-wanted, retirement-known, retirement-unknown}
 use Rattle.rows.proofs.Lookup.{looked-none, looked-row}
 use Rattle.placement_answers.proofs.Lent.{lent-full}
 use Rattle.placement_answers.proofs.judge_retirement.Statement.{statement}

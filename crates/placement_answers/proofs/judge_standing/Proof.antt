@@ -1,6 +1,6 @@
 -- `placement_answers::judge_standing` meets its contract. Assumes nothing.
 use borrow.Author.Needs.{needs}
-use Rattle.standing.proofs.Checks.{copies-refused, leaders-refused, domains-judged}
+use Rattle.copies.proofs.Standing.{copies-refused, leaders-refused, domains-judged}
 use Rattle.placement_answers.proofs.judge_standing.Statement.{statement}
 use Rattle.placement_answers.proofs.judge_standing.Tie as tie
 

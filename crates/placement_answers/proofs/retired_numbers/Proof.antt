@@ -3,7 +3,7 @@ use Prim.Native.Nat.{_-_}
 use native.Mathlib.Omega.{arith}
 use mathlib.Core.List.{map}
 use Rattle.lent_rows.specs.Lent.{retirementRow}
-use Rattle.retirements.proofs.Gathered.{Gathering}
+use Rattle.retired.proofs.Gathered.{Gathering}
 use Rattle.placement_answers.proofs.Gathered.{row-taken, gathering}
 use Rattle.placement_answers.proofs.retired_numbers.Statement.{statement}
 use Rattle.placement_answers.proofs.retired_numbers.Tie as tie

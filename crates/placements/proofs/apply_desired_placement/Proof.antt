@@ -1,7 +1,7 @@
 -- `placements::apply_desired_placement` meets its contract. Assumes nothing.
 use borrow.Author.Needs.{needs}
-use Rattle.tablets.proofs.Decided.{unchanged}
-use Rattle.placements.proofs.Applied.{applied-put}
+use Rattle.step_laws.proofs.Decided.{unchanged}
+use Rattle.step_laws.proofs.Placed.{applied-put}
 use Rattle.placements.proofs.apply_desired_placement.Statement.{statement}
 use Rattle.placements.proofs.apply_desired_placement.Tie as tie
 

@@ -1,6 +1,6 @@
 -- `placements::decide_placement` meets its contract. Assumes nothing.
 use borrow.Author.Needs.{needs}
-use Rattle.tablets.proofs.Decided.{inadmissible, judged-so, unnamed}
+use Rattle.step_laws.proofs.Decided.{inadmissible, judged-so, unnamed}
 use Rattle.placements.proofs.decide_placement.Statement.{statement}
 use Rattle.placements.proofs.decide_placement.Tie as tie
 

@@ -2,7 +2,7 @@
 use borrow.Author.Needs.{needs}
 use Rattle.laws.proofs.Rows.{length-mapped}
 use Rattle.rows.proofs.Lookup.{looked-none, looked-row}
-use Rattle.placements.proofs.Placing.{no-tablet, stored-already, stands-so, stands-not}
+use Rattle.changes.proofs.Placing.{no-tablet, stored-already, stands-so, stands-not}
 use Rattle.placements.proofs.judge_placement.Statement.{statement}
 use Rattle.placements.proofs.judge_placement.Tie as tie
 

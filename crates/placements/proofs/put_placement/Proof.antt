@@ -1,6 +1,6 @@
 -- `placements::put_placement` meets its contract. Assumes nothing.
 use borrow.Author.Needs.{needs}
-use Rattle.placements.proofs.Checks.{put-new, put-old}
+use Rattle.placements.proofs.Puts.{put-new, put-old}
 use Rattle.placements.proofs.put_placement.Statement.{statement}
 use Rattle.placements.proofs.put_placement.Tie as tie
 

@@ -1,11 +1,9 @@
+-- `reading::count_lines` meets its contract. Assumes nothing.
 use Prim.Native.Nat.{_-_}
 use lib.ListN.{length}
 use Rattle.reading.proofs.Reading.{Counting, counting}
 use Rattle.reading.proofs.count_lines.Statement.{statement}
 use Rattle.reading.proofs.count_lines.Tie as tie
-use Rattle.reading.proofs.count_lines.Reads as reads
-use Rattle.reading.proofs.count_lines.Lts as lts
-use Rattle.reading.proofs.next_at.Reads as next-at-reads
 
 abbrev Inv-loop : tie.InvT-loop
 Inv-loop tape at n₀ i₀ n i = Counting tape at i n
@@ -13,63 +11,48 @@ Inv-loop tape at n₀ i₀ n i = Counting tape at i n
 abbrev μ-loop : tie.MeasureT-loop
 μ-loop tape at n₀ i₀ n i = length tape - i
 
--- src/lib.rt:72:5
 loop-holds : tie.Need-loop-holds Inv-loop μ-loop
 loop-holds c = search counting
 
--- src/lib.rt:73:15
 next-at-requires : tie.Need-next-at-requires Inv-loop μ-loop
 next-at-requires c κs = search counting
 
--- src/lib.rt:74:28
 enum-known-m : tie.Need-enum-known-m Inv-loop μ-loop
 enum-known-m c = search counting
 
--- src/lib.rt:76:17
 add-n : tie.Need-add-n Inv-loop μ-loop
 add-n c = search counting
 
--- src/lib.rt:72:5
 loop-less : tie.Need-loop-less Inv-loop μ-loop
 loop-less c = search counting
 
--- src/lib.rt:72:5
 loop-again : tie.Need-loop-again Inv-loop μ-loop
 loop-again c = search counting
 
--- src/lib.rt:79:24
 enum-told : tie.Need-enum-told Inv-loop μ-loop
 enum-told c = search counting
 
--- src/lib.rt:79:24
 add-result : tie.Need-add-result Inv-loop μ-loop
 add-result c = search counting
 
--- src/lib.rt:79:17
 returns : tie.Need-returns Inv-loop μ-loop
 returns c = search counting
 
--- src/lib.rt:82:24
 enum-told-2 : tie.Need-enum-told-2 Inv-loop μ-loop
 enum-told-2 c = search counting
 
--- src/lib.rt:82:24
 add-result-2 : tie.Need-add-result-2 Inv-loop μ-loop
 add-result-2 c = search counting
 
--- src/lib.rt:82:17
 returns-2 : tie.Need-returns-2 Inv-loop μ-loop
 returns-2 c = search counting
 
--- src/lib.rt:85:17
 enum-told-3 : tie.Need-enum-told-3 Inv-loop μ-loop
 enum-told-3 c = search counting
 
--- src/lib.rt:85:17
 returns-3 : tie.Need-returns-3 Inv-loop μ-loop
 returns-3 c = search counting
 
--- src/lib.rt:67:1
 returns-4 : tie.Need-returns-4 Inv-loop μ-loop
 returns-4 c = search counting
 

@@ -1,42 +1,33 @@
-use borrow.Author.Tests.{eq-eqb, ne-eqb, lt-ltb, le-ltb}
+-- `reading::size_of` meets its contract. Assumes nothing.
+use borrow.Author.Tests.{eq-eqb, ne-eqb}
 use Rattle.reading.specs.Reader.{sizeOf}
-use borrow.Author.Needs.{needs}
 use Rattle.reading.proofs.size_of.Statement.{statement}
 use Rattle.reading.proofs.size_of.Tie as tie
-use Rattle.reading.proofs.size_of.Reads as reads
-use Rattle.reading.proofs.size_of.Lts as lts
 
--- src/lib.rt:29:9
 returns : tie.Need-returns
 unfolding sizeOf
 returns c = rw (eq-eqb _ _ (c .if1 .taken))
 
--- src/lib.rt:32:9
 returns-2 : tie.Need-returns-2
 unfolding sizeOf
 returns-2 c = rw (ne-eqb _ _ (c .before .if1 .left), eq-eqb _ _ (c .if2 .taken))
 
--- src/lib.rt:35:9
 returns-3 : tie.Need-returns-3
 unfolding sizeOf
 returns-3 c = rw (ne-eqb _ _ (c .before .before .if1 .left), ne-eqb _ _ (c .before .if2 .left), eq-eqb _ _ (c .if3 .taken))
 
--- src/lib.rt:38:9
 returns-4 : tie.Need-returns-4
 unfolding sizeOf
 returns-4 c = rw (ne-eqb _ _ (c .before .before .before .if1 .left), ne-eqb _ _ (c .before .before .if2 .left), ne-eqb _ _ (c .before .if3 .left), eq-eqb _ _ (c .if4 .taken))
 
--- src/lib.rt:41:9
 returns-5 : tie.Need-returns-5
 unfolding sizeOf
 returns-5 c = rw (ne-eqb _ _ (c .before .before .before .before .if1 .left), ne-eqb _ _ (c .before .before .before .if2 .left), ne-eqb _ _ (c .before .before .if3 .left), ne-eqb _ _ (c .before .if4 .left), eq-eqb _ _ (c .if5 .taken))
 
--- src/lib.rt:44:9
 returns-6 : tie.Need-returns-6
 unfolding sizeOf
 returns-6 c = rw (ne-eqb _ _ (c .before .before .before .before .before .if1 .left), ne-eqb _ _ (c .before .before .before .before .if2 .left), ne-eqb _ _ (c .before .before .before .if3 .left), ne-eqb _ _ (c .before .before .if4 .left), ne-eqb _ _ (c .before .if5 .left), eq-eqb _ _ (c .if6 .taken))
 
--- src/lib.rt:25:1
 returns-7 : tie.Need-returns-7
 unfolding sizeOf
 returns-7 c = rw (ne-eqb _ _ (c .before .before .before .before .before .if1 .left), ne-eqb _ _ (c .before .before .before .before .if2 .left), ne-eqb _ _ (c .before .before .before .if3 .left), ne-eqb _ _ (c .before .before .if4 .left), ne-eqb _ _ (c .before .if5 .left), ne-eqb _ _ (c .if6 .left))

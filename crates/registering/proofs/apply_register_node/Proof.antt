@@ -1,6 +1,6 @@
 -- `registering::apply_register_node` meets its contract. Assumes nothing.
 use borrow.Author.Needs.{needs}
-use Rattle.registering.proofs.Changes.{applied-room}
+use Rattle.step_laws.proofs.Registered.{applied-room}
 use Rattle.naming.proofs.Decision.{changed, unchanged}
 use Rattle.registering.proofs.apply_register_node.Statement.{statement}
 use Rattle.registering.proofs.apply_register_node.Tie as tie

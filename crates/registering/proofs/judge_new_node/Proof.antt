@@ -1,7 +1,7 @@
 -- `registering::judge_new_node` meets its contract. Assumes nothing.
 use borrow.Author.Needs.{needs}
 use Rattle.laws.proofs.Rows.{length-mapped}
-use Rattle.registering.proofs.Entering.{new-among}
+use Rattle.entering.proofs.Entering.{new-among}
 use Rattle.registering.proofs.judge_new_node.Statement.{statement}
 use Rattle.registering.proofs.judge_new_node.Tie as tie
 

@@ -1,6 +1,6 @@
 -- `registering::judge_registering` meets its contract. Assumes nothing.
 use borrow.Author.Needs.{needs}
-use Rattle.registering.proofs.Entering.{new-id, leaving, moving-on}
+use Rattle.entering.proofs.Entering.{new-id, leaving, moving-on}
 use Rattle.registering.proofs.judge_registering.Statement.{statement}
 use Rattle.registering.proofs.judge_registering.Tie as tie
 

@@ -1,6 +1,6 @@
 -- `registering::registered_nodes` meets its contract. Assumes nothing.
 use borrow.Author.Needs.{needs}
-use Rattle.registering.proofs.Changes.{row-new, row-goes-on}
+use Rattle.step_laws.proofs.Registered.{row-new, row-goes-on}
 use Rattle.registering.proofs.registered_nodes.Statement.{statement}
 use Rattle.registering.proofs.registered_nodes.Tie as tie
 

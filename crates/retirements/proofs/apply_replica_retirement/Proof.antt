@@ -1,7 +1,7 @@
 -- `retirements::apply_replica_retirement` meets its contract. Assumes nothing.
 use borrow.Author.Needs.{needs}
-use Rattle.tablets.proofs.Decided.{unchanged}
-use Rattle.retirements.proofs.Applied.{retirement-put}
+use Rattle.step_laws.proofs.Decided.{unchanged}
+use Rattle.step_laws.proofs.Retired.{retirement-put}
 use Rattle.retirements.proofs.apply_replica_retirement.Statement.{statement}
 use Rattle.retirements.proofs.apply_replica_retirement.Tie as tie
 

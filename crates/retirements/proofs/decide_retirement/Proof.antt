@@ -1,6 +1,6 @@
 -- `retirements::decide_retirement` meets its contract. Assumes nothing.
 use borrow.Author.Needs.{needs}
-use Rattle.tablets.proofs.Decided.{inadmissible, judged-so, unnamed}
+use Rattle.step_laws.proofs.Decided.{inadmissible, judged-so, unnamed}
 use Rattle.retirements.proofs.decide_retirement.Statement.{statement}
 use Rattle.retirements.proofs.decide_retirement.Tie as tie
 

@@ -1,7 +1,7 @@
 -- `retirements::judge_retirement` meets its contract. Assumes nothing.
 use borrow.Author.Needs.{needs}
 use Rattle.rows.proofs.Lookup.{looked-none, looked-row}
-use Rattle.retirements.proofs.RetirementLaws.{group-unknown, still-wanted, retirement-known, retirement-unknown}
+use Rattle.retired.proofs.RetirementLaws.{group-unknown, still-wanted, retirement-known, retirement-unknown}
 use Rattle.retirements.proofs.judge_retirement.Statement.{statement}
 use Rattle.retirements.proofs.judge_retirement.Tie as tie
 

@@ -1,6 +1,6 @@
 -- `retirements::retired_numbers` meets its contract. Assumes nothing.
 use Prim.Native.Nat.{_-_}
-use Rattle.retirements.proofs.Gathered.{Gathering, gathering}
+use Rattle.retired.proofs.Gathered.{Gathering, gathering}
 use Rattle.retirements.proofs.retired_numbers.Statement.{statement}
 use Rattle.retirements.proofs.retired_numbers.Tie as tie
 

@@ -2,7 +2,7 @@
 use native.Mathlib.Omega.{arith}
 use borrow.Author.Needs.{needs}
 use Rattle.row_lines.specs.RowLines.{nodeLine}
-use Rattle.row_lines.proofs.Chains.{chain6}
+use Rattle.pieces.proofs.Chains.{chain6}
 use Rattle.row_lines.proofs.put_node.Statement.{statement}
 use Rattle.row_lines.proofs.put_node.Tie as tie
 

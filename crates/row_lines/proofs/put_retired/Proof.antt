@@ -1,7 +1,7 @@
 -- `row_lines::put_retired` meets its contract. Assumes nothing.
 use borrow.Author.Needs.{needs}
 use Rattle.row_lines.specs.RowLines.{retiredLine}
-use Rattle.row_lines.proofs.Chains.{chain4}
+use Rattle.pieces.proofs.Chains.{chain4}
 use Rattle.row_lines.proofs.put_retired.Statement.{statement}
 use Rattle.row_lines.proofs.put_retired.Tie as tie
 

@@ -1,7 +1,7 @@
 -- `row_lines::put_table` meets its contract. Assumes nothing.
 use borrow.Author.Needs.{needs}
 use Rattle.row_lines.specs.RowLines.{tableLine}
-use Rattle.row_lines.proofs.Chains.{chain5}
+use Rattle.pieces.proofs.Chains.{chain5}
 use Rattle.row_lines.proofs.put_table.Statement.{statement}
 use Rattle.row_lines.proofs.put_table.Tie as tie
 

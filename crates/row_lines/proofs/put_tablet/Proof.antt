@@ -1,7 +1,7 @@
 -- `row_lines::put_tablet` meets its contract. Assumes nothing.
 use borrow.Author.Needs.{needs}
 use Rattle.row_lines.specs.RowLines.{tabletLine}
-use Rattle.row_lines.proofs.Chains.{chain5}
+use Rattle.pieces.proofs.Chains.{chain5}
 use Rattle.row_lines.proofs.put_tablet.Statement.{statement}
 use Rattle.row_lines.proofs.put_tablet.Tie as tie
 

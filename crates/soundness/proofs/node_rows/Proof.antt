@@ -4,7 +4,7 @@ use Rattle.laws.proofs.Every.{Checking}
 use Rattle.metadata.specs.Rooms.{nodeRoom}
 use Rattle.metadata.specs.Sound.{soundNode}
 use Rattle.metadata.specs.Tables.{blankNode}
-use Rattle.soundness.proofs.Front.{fronting}
+use Rattle.laws.proofs.Front.{fronting}
 use Rattle.soundness.proofs.node_rows.Statement.{statement}
 use Rattle.soundness.proofs.node_rows.Tie as tie
 

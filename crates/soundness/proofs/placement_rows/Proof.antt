@@ -4,7 +4,7 @@ use Rattle.laws.proofs.Every.{Checking}
 use Rattle.metadata.specs.Rooms.{tabletRoom}
 use Rattle.metadata.specs.Sound.{soundPlacement}
 use Rattle.metadata.specs.Tables.{blankPlacement}
-use Rattle.soundness.proofs.Front.{fronting}
+use Rattle.laws.proofs.Front.{fronting}
 use Rattle.soundness.proofs.placement_rows.Statement.{statement}
 use Rattle.soundness.proofs.placement_rows.Tie as tie
 

@@ -2,7 +2,7 @@
 use borrow.Author.Needs.{needs}
 use Rattle.laws.specs.Tests.{allOf}
 use Rattle.metadata.specs.Sound.{sound}
-use Rattle.records.proofs.Bools.{and-both}
+use Rattle.laws.proofs.Bools.{and-both}
 use Rattle.soundness.proofs.sound.Statement.{statement}
 use Rattle.soundness.proofs.sound.Tie as tie
 

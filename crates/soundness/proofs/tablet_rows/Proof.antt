@@ -4,7 +4,7 @@ use Rattle.laws.proofs.Every.{Checking}
 use Rattle.metadata.specs.Rooms.{tabletRoom}
 use Rattle.metadata.specs.Sound.{soundTablet}
 use Rattle.metadata.specs.Tables.{blankTablet}
-use Rattle.soundness.proofs.Front.{fronting}
+use Rattle.laws.proofs.Front.{fronting}
 use Rattle.soundness.proofs.tablet_rows.Statement.{statement}
 use Rattle.soundness.proofs.tablet_rows.Tie as tie
 

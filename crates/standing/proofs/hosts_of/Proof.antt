@@ -3,9 +3,9 @@ use Prim.Native.Nat.{_-_}
 use Rattle.metadata.specs.Tables.{zeroReplica}
 use Rattle.metadata.specs.Rooms.{replicaRoom}
 use Rattle.metadata.specs.Model.{viewNodes}
-use Rattle.standing.specs.Standing.{hostFound}
+use Rattle.rows.specs.Results.{hostFound}
 use Rattle.laws.proofs.Filling.{Filling, filling}
-use Rattle.standing.proofs.Hosting.{host-filled}
+use Rattle.copies.proofs.Hosting.{host-filled}
 use Rattle.standing.proofs.hosts_of.Statement.{statement}
 use Rattle.standing.proofs.hosts_of.Tie as tie
 

@@ -1,6 +1,6 @@
 -- `standing::judge_leader` meets its contract. Assumes nothing.
 use borrow.Author.Needs.{needs}
-use Rattle.standing.proofs.Checks.{leader-judged}
+use Rattle.copies.proofs.Standing.{leader-judged}
 use Rattle.standing.proofs.judge_leader.Statement.{statement}
 use Rattle.standing.proofs.judge_leader.Tie as tie
 

@@ -1,6 +1,6 @@
 -- `standing::judge_standing` meets its contract. Assumes nothing.
 use borrow.Author.Needs.{needs}
-use Rattle.standing.proofs.Checks.{copies-refused, leaders-refused, domains-judged}
+use Rattle.copies.proofs.Standing.{copies-refused, leaders-refused, domains-judged}
 use Rattle.standing.proofs.judge_standing.Statement.{statement}
 use Rattle.standing.proofs.judge_standing.Tie as tie
 

@@ -5,8 +5,8 @@ use lib.ListN.{length, length-map}
 use Rattle.lent_rows.specs.Lent.{tabletRow}
 use Rattle.metadata.specs.Tables.{blankTablet}
 use Rattle.metadata.specs.Tablets.{holdsBucket}
-use Rattle.records.proofs.Twice.{Looking}
-use Rattle.tablets.proofs.Any.{looking-all}
+use Rattle.laws.proofs.Twice.{Looking}
+use Rattle.laws.proofs.Any.{looking-all}
 use Rattle.tablet_answers.proofs.Carried.{holds-bucket-of}
 use Rattle.tablet_answers.proofs.bucket_held.Statement.{statement}
 use Rattle.tablet_answers.proofs.bucket_held.Tie as tie

@@ -1,6 +1,6 @@
 -- `tablet_answers::judge_kind` meets its contract. Assumes nothing.
 use borrow.Author.Needs.{needs}
-use Rattle.tablets.proofs.TabletLaws.{by-hash, by-range}
+use Rattle.tablet_checks.proofs.TabletLaws.{by-hash, by-range}
 use Rattle.tablet_answers.proofs.judge_kind.Statement.{statement}
 use Rattle.tablet_answers.proofs.judge_kind.Tie as tie
 

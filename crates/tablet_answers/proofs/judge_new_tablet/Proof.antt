@@ -1,6 +1,6 @@
 -- `tablet_answers::judge_new_tablet` meets its contract. Assumes nothing.
 use borrow.Author.Needs.{needs}
-use Rattle.tablets.proofs.TabletLaws.{group-taken, table-unknown, no-row-left, tablet-new, kind-refused}
+use Rattle.tablet_checks.proofs.TabletLaws.{group-taken, table-unknown, no-row-left, tablet-new, kind-refused}
 use Rattle.tablet_answers.proofs.judge_new_tablet.Statement.{statement}
 use Rattle.tablet_answers.proofs.judge_new_tablet.Tie as tie
 

@@ -1,6 +1,6 @@
 -- `tablets::apply_create_tablet` meets its contract. Assumes nothing.
 use borrow.Author.Needs.{needs}
-use Rattle.tablets.proofs.Decided.{tablet-put, unchanged}
+use Rattle.step_laws.proofs.Decided.{tablet-put, unchanged}
 use Rattle.tablets.proofs.apply_create_tablet.Statement.{statement}
 use Rattle.tablets.proofs.apply_create_tablet.Tie as tie
 

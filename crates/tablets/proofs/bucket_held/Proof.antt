@@ -3,8 +3,8 @@ use Prim.Native.Nat.{_-_}
 use Rattle.metadata.specs.Rooms.{tabletRoom}
 use Rattle.metadata.specs.Tables.{blankTablet}
 use Rattle.metadata.specs.Tablets.{holdsBucket}
-use Rattle.records.proofs.Twice.{Looking}
-use Rattle.tablets.proofs.Any.{looking-all}
+use Rattle.laws.proofs.Twice.{Looking}
+use Rattle.laws.proofs.Any.{looking-all}
 use Rattle.tablets.proofs.bucket_held.Statement.{statement}
 use Rattle.tablets.proofs.bucket_held.Tie as tie
 

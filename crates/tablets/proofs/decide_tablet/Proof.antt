@@ -1,6 +1,6 @@
 -- `tablets::decide_tablet` meets its contract. Assumes nothing.
 use borrow.Author.Needs.{needs}
-use Rattle.tablets.proofs.Decided.{inadmissible, judged-so, unnamed}
+use Rattle.step_laws.proofs.Decided.{inadmissible, judged-so, unnamed}
 use Rattle.tablets.proofs.decide_tablet.Statement.{statement}
 use Rattle.tablets.proofs.decide_tablet.Tie as tie
 

@@ -1,6 +1,6 @@
 -- `tablets::is_complete` meets its contract. Assumes nothing.
 use borrow.Author.Needs.{needs}
-use Rattle.tablets.proofs.TabletLaws.{incomplete, complete}
+use Rattle.tablet_checks.proofs.TabletLaws.{incomplete, complete}
 use Rattle.tablets.proofs.is_complete.Statement.{statement}
 use Rattle.tablets.proofs.is_complete.Tie as tie
 

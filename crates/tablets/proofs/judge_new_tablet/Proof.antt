@@ -1,6 +1,6 @@
 -- `tablets::judge_new_tablet` meets its contract. Assumes nothing.
 use borrow.Author.Needs.{needs}
-use Rattle.tablets.proofs.TabletLaws.{group-taken, table-unknown, no-row-left, tablet-new, kind-refused}
+use Rattle.tablet_checks.proofs.TabletLaws.{group-taken, table-unknown, no-row-left, tablet-new, kind-refused}
 use Rattle.tablets.proofs.judge_new_tablet.Statement.{statement}
 use Rattle.tablets.proofs.judge_new_tablet.Tie as tie
 

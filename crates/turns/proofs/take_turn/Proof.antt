@@ -1,63 +1,46 @@
+-- `turns::take_turn` meets its contract. Assumes nothing.
 use Rattle.turns.proofs.Turning.{change, changed, turning}
 use Rattle.turns.proofs.take_turn.Statement.{statement}
 use Rattle.turns.proofs.take_turn.Tie as tie
-use Rattle.turns.proofs.take_turn.Reads as reads
-use Rattle.turns.proofs.take_turn.Lts as lts
-use Rattle.answers.proofs.command_answer.Reads as command-answer-reads
-use Rattle.commits.proofs.commit.Reads as commit-reads
-use Rattle.reports.proofs.is_applied.Reads as is-applied-reads
 
--- src/lib.rt:38:9
 command-answer-requires : tie.Need-command-answer-requires
 command-answer-requires c κs = search turning
 
--- src/lib.rt:48:8
 is-applied-requires : tie.Need-is-applied-requires
 is-applied-requires c κs = search turning
 
--- src/lib.rt:49:13
 commit-requires : tie.Need-commit-requires
 commit-requires c κs =
     change _ _ _ _ _ _ _ _ _ _ (c .before .before .before .before .before .before .before .before .before .before .before .before .pre .0) (c .before .before .before .before .before .before .command-answer .ensures) (c .before .before .before .before .before .is-applied .ensures) (c .before .before .before .before .before .before .before .before .before .before .before .before .pre .1) (c .before .before .before .before .if1 .taken)
 
--- src/lib.rt:50:9
 same-length : tie.Need-same-length
 same-length c = search turning
 
--- src/lib.rt:50:9
 same-length-2 : tie.Need-same-length-2
 same-length-2 c = search turning
 
--- src/lib.rt:50:9
 same-length-3 : tie.Need-same-length-3
 same-length-3 c = search turning
 
--- src/lib.rt:50:9
 same-length-4 : tie.Need-same-length-4
 same-length-4 c = search turning
 
--- src/lib.rt:50:9
 returns : tie.Need-returns
 returns c =
     changed _ _ _ _ _ _ _ _ _ _ (c .before .before .before .before .before .before .before .before .before .before .before .before .before .before .before .before .before .pre .0) (c .before .before .before .before .before .before .before .before .before .before .before .command-answer .ensures) (c .before .before .before .before .before .before .before .before .before .before .is-applied .ensures) _ _ _ _ _ (c .before .before .before .before .commit .ensures)
 
--- src/lib.rt:25:1
 same-length-5 : tie.Need-same-length-5
 same-length-5 c = search turning
 
--- src/lib.rt:25:1
 same-length-6 : tie.Need-same-length-6
 same-length-6 c = search turning
 
--- src/lib.rt:25:1
 same-length-7 : tie.Need-same-length-7
 same-length-7 c = search turning
 
--- src/lib.rt:25:1
 same-length-8 : tie.Need-same-length-8
 same-length-8 c = search turning
 
--- src/lib.rt:25:1
 returns-2 : tie.Need-returns-2
 returns-2 c = search turning
 

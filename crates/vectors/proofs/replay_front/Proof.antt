@@ -1,28 +1,21 @@
-use Rattle.vectors.proofs.Fronts.{prefix-long}
+-- `vectors::replay_front` meets its contract. Assumes nothing.
+use Rattle.laws.proofs.Fronts.{prefix-long}
 use borrow.Author.Needs.{needs}
 use Rattle.vectors.proofs.replay_front.Statement.{statement}
 use Rattle.vectors.proofs.replay_front.Tie as tie
-use Rattle.vectors.proofs.replay_front.Reads as reads
-use Rattle.vectors.proofs.replay_front.Lts as lts
-use Rattle.vectors.proofs.replay.Reads as replay-reads
 
--- src/main.rt:105:16
 array-share-prefix-buf : tie.Need-array-share-prefix-buf
 array-share-prefix-buf c = search needs
 
--- src/main.rt:105:16
 slice-aggregate-replay : tie.Need-slice-aggregate-replay
 slice-aggregate-replay c = search (prefix-long, needs)
 
--- src/main.rt:105:9
 replay-requires : tie.Need-replay-requires
 replay-requires c κs = search needs
 
--- src/main.rt:103:1
 returns : tie.Need-returns
 returns c = search needs
 
--- src/main.rt:103:1
 returns-2 : tie.Need-returns-2
 returns-2 c = search needs
 

@@ -1,0 +1,4 @@
+-- The laws that belong to no one function. Assumes nothing.
+pub mod Checks
+pub mod Last
+pub mod Placing

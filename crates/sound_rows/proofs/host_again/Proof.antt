@@ -1,0 +1,61 @@
+-- `sound_rows::host_again` meets its contract. Assumes nothing.
+use Prim.Native.Nat.{_-_}
+use Rattle.metadata.specs.Rooms.{replicaRoom}
+use Rattle.metadata.specs.Tables.{zeroReplica}
+use Rattle.metadata.specs.Commands.{sameHost}
+use Rattle.laws.proofs.Twice.{Looking, looking}
+use Rattle.sound_rows.proofs.host_again.Statement.{statement}
+use Rattle.sound_rows.proofs.host_again.Tie as tie
+
+abbrev Inv-loop : tie.InvT-loop
+Inv-loop x from to replicas j₀ j = Looking zeroReplica (sameHost x) replicaRoom from to replicas j
+
+abbrev μ-loop : tie.MeasureT-loop
+μ-loop x from to replicas j₀ j = to - j
+
+loop-holds : tie.Need-loop-holds Inv-loop μ-loop
+loop-holds c = search looking
+
+returns : tie.Need-returns Inv-loop μ-loop
+returns c = search looking
+
+mul-same-host : tie.Need-mul-same-host Inv-loop μ-loop
+mul-same-host c = search looking
+
+array-copy-out-same-host : tie.Need-array-copy-out-same-host Inv-loop μ-loop
+array-copy-out-same-host c = search looking
+
+same-host-requires : tie.Need-same-host-requires Inv-loop μ-loop
+same-host-requires c κs = search looking
+
+returns-2 : tie.Need-returns-2 Inv-loop μ-loop
+returns-2 c = search looking
+
+add-j : tie.Need-add-j Inv-loop μ-loop
+add-j c = search looking
+
+loop-less : tie.Need-loop-less Inv-loop μ-loop
+loop-less c = search looking
+
+loop-again : tie.Need-loop-again Inv-loop μ-loop
+loop-again c = search looking
+
+returns-3 : tie.Need-returns-3 Inv-loop μ-loop
+returns-3 c = search looking
+
+pub host-again-spec : {M : Type 1} → statement M
+host-again-spec =
+    tie.close
+    (tie.spec
+    Inv-loop
+    μ-loop
+    loop-holds
+    returns
+    mul-same-host
+    array-copy-out-same-host
+    same-host-requires
+    returns-2
+    add-j
+    loop-less
+    loop-again
+    returns-3)

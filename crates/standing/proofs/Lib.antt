@@ -1,5 +1,0 @@
--- The laws that belong to no one function. Assumes nothing.
-pub mod Checks
-pub mod Domains
-pub mod Hosting
-pub mod Turns
