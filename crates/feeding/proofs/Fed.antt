@@ -1,7 +1,7 @@
 -- A chunk of the tape, command by command. Assumes nothing.
 use Prim.Native.Nat.{ℕ, _≤_}
 use native.Mathlib.Omega.{arith}
-use mathlib.Core.Path.{_≡_}
+use mathlib.Core.Path.{_≡_, ap, _∙_}
 use mathlib.Core.Bool.{Bool, true}
 use mathlib.Core.List.{List}
 use lib.ListN.{take, length-take}
@@ -50,3 +50,7 @@ module _ (f : Feed) (ns ts ps rs : List (List ℕ)) (g : GoodFeed f ns ts ps rs)
   good-within = g .within
 
 pub ruleset turns = (good-sound, good-whole, good-inside, good-within, needs)
+
+-- the store that is left is the one that the rows are
+pub left-sound : (r s : Store) → r ≡ s → sound s ≡ true → sound r ≡ true
+left-sound r s e h = ap sound e ∙ h

@@ -105,7 +105,7 @@ fn feed_all(
     retirements: &mut [RetirementRow],
 ) -> Held
     requires { ⌜ GoodFeed start (now nodes) (now tablets) (now placements) (now retirements) ⌝ }
-    ensures { λ r. ⌜ Whole (now (nodes .exit)) (now (tablets .exit)) (now (placements .exit)) (now (retirements .exit)) ⌝ }
+    ensures { λ r. ⌜ (sound (lentStore r (now (nodes .exit)) (now (tablets .exit)) (now (placements .exit)) (now (retirements .exit))) ≡ true) × Whole (now (nodes .exit)) (now (tablets .exit)) (now (placements .exit)) (now (retirements .exit)) ⌝ }
 {
     let mut f = start;
     let mut turns = u64::MAX;
@@ -142,7 +142,7 @@ fn run_tape(
     have: usize,
 ) -> Held
     requires { ⌜ (sound (lentStore held (now nodes) (now tablets) (now placements) (now retirements)) ≡ true) × Whole (now nodes) (now tablets) (now placements) (now retirements) × (have ≤ bufferSize) ⌝ }
-    ensures { λ r. ⌜ Whole (now (nodes .exit)) (now (tablets .exit)) (now (placements .exit)) (now (retirements .exit)) ⌝ }
+    ensures { λ r. ⌜ (sound (lentStore r (now (nodes .exit)) (now (tablets .exit)) (now (placements .exit)) (now (retirements .exit))) ≡ true) × Whole (now (nodes .exit)) (now (tablets .exit)) (now (placements .exit)) (now (retirements .exit)) ⌝ }
 {
     let at = reading::body_at(&buf[..have]);
     if have < at {
@@ -169,6 +169,7 @@ fn run_tape(
 // The same from the opened store, whose four large tables have no rows; the store that is left.
 pub fn run_opened(store: Store, buf: [u8; BUFFER_SIZE], have: usize) -> Store
     requires { ⌜ (sound store ≡ true) × Empty store × (have ≤ bufferSize) ⌝ }
+    ensures { λ r. ⌜ sound r ≡ true ⌝ }
 {
     let mut nodes = no_nodes();
     let mut tablets = no_tablets();

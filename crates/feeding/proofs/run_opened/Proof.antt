@@ -1,6 +1,7 @@
 -- `feeding::run_opened` meets its contract. Assumes nothing.
 use borrow.Author.Needs.{needs}
 use Rattle.turns.proofs.Begun.{begins-sound, begins-whole}
+use Rattle.feeding.proofs.Fed.{left-sound}
 use Rattle.feeding.proofs.run_opened.Statement.{statement}
 use Rattle.feeding.proofs.run_opened.Tie as tie
 
@@ -54,7 +55,7 @@ store-of-requires : tie.Need-store-of-requires
 store-of-requires c κs = search needs
 
 returns : tie.Need-returns
-returns c = search needs
+returns c = search (needs, left-sound)
 
 pub run-opened-spec : {M : Type 1} → statement M
 run-opened-spec =
