@@ -1,29 +1,15 @@
--- What a command of the tape is answered: what is asked before its own checks, then these, a law for each command. Assumes nothing.
-use Prim.Native.Nat.{ℕ, zero, suc, _+_, _≤_, _<_}
-use native.Mathlib.Omega.{arith}
+-- What a command of the tape is answered: its own checks, a law for each command, behind what is asked before them. Assumes nothing.
+use Prim.Native.Nat.{ℕ, _+_, _≤_, _<_}
 use mathlib.Core.Path.{_≡_, refl, sym, ap, _∙_}
 use mathlib.Core.Bool.{Bool, true, false, not, cond, _&&_}
 use mathlib.Core.List.{List}
-use lib.Dec.{leb}
-use borrow.Author.Tests.{eq-eqb, ne-eqb, leb-true}
-use Rattle.laws.proofs.ListLaws.{and-both}
+use Rattle.command_admission.specs.Admitted.{admitted}
 use Rattle.decode.specs.Decode.{numberAt, byteAt, nameAt, nodeAt, tabletAt, placementAt, retirementAt}
 use Rattle.held.specs.Stores.{lentStore}
 use Rattle.held.specs.declared.Held.{Held}
 use Rattle.lent_rows.specs.Lent.{lentNodes, lentTablets, lentPlacements, lentRetirements}
 use Rattle.metadata.specs.Answers.{isApplied, _⊳_, refuse}
-use Rattle.metadata.specs.Commands.{
-  Command,
-  lowest,
-  faults,
-  namingFaults,
-  nodeFaults,
-  lifecycleFaults,
-  tabletFaults,
-  placementFaults,
-  retirementFaults,
-  needsName,
-}
+use Rattle.metadata.specs.Commands.{Command, needsName}
 use Rattle.metadata.specs.Labels.{judgePicking}
 use Rattle.metadata.specs.Nodes.{judgeNaming, judgeRegistering, judgeLifecycle}
 use Rattle.metadata.specs.Tablets.{judgeTablet, judgeRetirement}
@@ -50,108 +36,8 @@ use Rattle.metadata.specs.declared.OptionalName.{OptionalName}
 use Rattle.metadata.specs.declared.RetiredReplicaLifetime.{RetiredReplicaLifetime}
 use Rattle.metadata.specs.declared.TabletDescriptor.{TabletDescriptor}
 use Rattle.metadata.proofs.AnswerLaws.{stop, go-on}
-use Rattle.answers.specs.Turns.{admitted}
+use Rattle.reading.proofs.Sizes.{third, sixth, seventh}
 use Rattle.reading.specs.Reader.{isCommand, commandAt}
-
--- ---- which command it is
-
-pub bounds : (b : ℕ) → isCommand b ≡ true → (1 ≤ b) × (b ≤ 7)
-bounds b k = let g = and-both (leb 1 b) (leb b 7) k in (leb-true 1 b (g .0), leb-true b 7 (g .1))
-
--- none but the first is below the second
-pub behind-first : (b : ℕ) → isCommand b ≡ true → (b ≡ 1 → ⊥) → 2 ≤ b
-behind-first b k n1 = go b (bounds b k .0) n1
-  where
-    go : (n : ℕ) → 1 ≤ n → (n ≡ 1 → ⊥) → 2 ≤ n
-    go n a f1 = omega arith
-
--- the last of the two after the first
-pub third : (b : ℕ) → 2 ≤ b → b ≤ 3 → (b ≡ 2 → ⊥) → b ≡ 3
-third b a z n2 = omega arith
-
--- the last of the three in the middle
-pub sixth : (b : ℕ) → 4 ≤ b → b ≤ 6 → (b ≡ 4 → ⊥) → (b ≡ 5 → ⊥) → b ≡ 6
-sixth b a z n4 n5 = omega arith
-
-seventh : (b : ℕ) → isCommand b ≡ true → 6 < b → b ≡ 7
-seventh b k h = go b (bounds b k .1) h
-  where
-    go : (n : ℕ) → n ≤ 7 → 6 < n → n ≡ 7
-    go n z h = omega arith
-
--- ---- the lowest reason
-
-module _ (b : ℕ) (l : List ℕ) (at r : ℕ) where
-  abbrev reason : Type 0
-  reason = r ≡ lowest (faults (commandAt b l at))
-
-  pub reason-naming : (t : Name) → b ≡ 1 → t ≡ nameAt l at → r ≡ lowest (namingFaults t) → reason
-  unfolding commandAt
-  reason-naming t e q p = rw e (p ∙ ap (λ (x : Name). lowest (namingFaults x)) q)
-
-  pub reason-node : (n : NodeDescriptor) → b ≡ 2 → n ≡ nodeAt l at → r ≡ lowest (nodeFaults n) → reason
-  unfolding commandAt
-  reason-node n e q p = rw e (p ∙ ap (λ (x : NodeDescriptor). lowest (nodeFaults x)) q)
-
-  pub reason-lifecycle : (k to : ℕ) → b ≡ 3 → k ≡ numberAt 8 l at → to ≡ byteAt l (at + 8) → r ≡ lowest (lifecycleFaults (record { 0 = k }) to) → reason
-  unfolding commandAt
-  reason-lifecycle k to e q w p = rw e (p ∙ rw (q, w))
-
-  pub reason-tablet : (t : TabletDescriptor) → b ≡ 4 → t ≡ tabletAt l at → r ≡ lowest (tabletFaults t) → reason
-  unfolding commandAt
-  reason-tablet t e q p = rw e (p ∙ ap (λ (x : TabletDescriptor). lowest (tabletFaults x)) q)
-
-  pub reason-placement : (x : DesiredReplicaPlacement) → b ≡ 5 → x ≡ placementAt l at → r ≡ lowest (placementFaults x) → reason
-  unfolding commandAt
-  reason-placement x e q p = rw e (p ∙ ap (λ (y : DesiredReplicaPlacement). lowest (placementFaults y)) q)
-
-  pub reason-retirement : (x : RetiredReplicaLifetime) → b ≡ 6 → x ≡ retirementAt l at → r ≡ lowest (retirementFaults x) → reason
-  unfolding commandAt
-  reason-retirement x e q p = rw e (p ∙ ap (λ (y : RetiredReplicaLifetime). lowest (retirementFaults y)) q)
-
--- the last of the seven
-last : (n : ℕ) → 1 ≤ n → n ≤ 7 → (n ≡ 1 → ⊥) → (n ≡ 2 → ⊥) → (n ≡ 3 → ⊥) → (n ≡ 4 → ⊥) → (n ≡ 5 → ⊥) → (n ≡ 6 → ⊥) → n ≡ 7
-last n a z f1 f2 f3 f4 f5 f6 = omega arith
-
-pub reason-none : (b : ℕ) (l : List ℕ) (at : ℕ) → isCommand b ≡ true → (b ≡ 1 → ⊥) → (b ≡ 2 → ⊥) → (b ≡ 3 → ⊥) → (b ≡ 4 → ⊥) → (b ≡ 5 → ⊥) → (b ≡ 6 → ⊥) →
-    0 ≡ lowest (faults (commandAt b l at))
-unfolding commandAt lowest
-reason-none b l at k n1 n2 n3 n4 n5 n6 =
-    let e : b ≡ 7 = last b (bounds b k .0) (bounds b k .1) n1 n2 n3 n4 n5 n6 in
-    rw e
-
--- ---- before the command's own checks
-
-no-eighth : (n : ℕ) → suc (suc (suc (suc (suc (suc (suc (suc n))))))) ≤ 7 → ⊥
-no-eighth n h = omega arith
-
--- which commands need a name
-needs-go : (b : ℕ) (l : List ℕ) (at : ℕ) → isCommand b ≡ true → needsName (commandAt b l at) ≡ (leb 2 b && leb b 6)
-unfolding commandAt
-needs-go zero l at k = cc
-needs-go (suc zero) l at k = refl
-needs-go (suc (suc zero)) l at k = refl
-needs-go (suc (suc (suc zero))) l at k = refl
-needs-go (suc (suc (suc (suc zero)))) l at k = refl
-needs-go (suc (suc (suc (suc (suc zero))))) l at k = refl
-needs-go (suc (suc (suc (suc (suc (suc zero)))))) l at k = refl
-needs-go (suc (suc (suc (suc (suc (suc (suc zero))))))) l at k = refl
-needs-go (suc (suc (suc (suc (suc (suc (suc (suc b)))))))) l at k =
-    absurd (no-eighth b (bounds (suc (suc (suc (suc (suc (suc (suc (suc b)))))))) k .1))
-
-module _ (name : OptionalName) (b : ℕ) (l : List ℕ) (at r : ℕ) (q : r ≡ lowest (faults (commandAt b l at))) where
-  pub invalid-early : (r ≡ 0 → ⊥) → A.InvalidCommand r ≡ admitted name (commandAt b l at)
-  unfolding admitted admission _⊳_ refuse
-  invalid-early h = rw (← q, ne-eqb r 0 h)
-
-  module _ (h : r ≡ 0) (k : isCommand b ≡ true) (t : Bool) (n : t ≡ (leb 2 b && leb b 6)) where
-    pub unnamed-early : (t && not (name .present)) ≡ true → A.NotInitialized ≡ admitted name (commandAt b l at)
-    unfolding admitted admission _⊳_ refuse
-    unnamed-early e = rw (← q, eq-eqb r 0 h, needs-go b l at k, ← n, e)
-
-    pub none-early : (t && not (name .present)) ≡ false → A.Applied ≡ admitted name (commandAt b l at)
-    unfolding admitted admission _⊳_ refuse
-    none-early e = rw (← q, eq-eqb r 0 h, needs-go b l at k, ← n, e)
 
 -- ---- the command's own checks: a is what the code answers
 

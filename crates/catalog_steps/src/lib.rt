@@ -7,7 +7,6 @@ ghost use Rattle.metadata.specs.Model.{step, raisedByTablet, raisedByPlacement}
 ghost use Rattle.metadata.specs.Sound.{sound};
 use metadata::Answer;
 use metadata::Answered;
-use metadata::Catalog;
 use metadata::DesiredReplicaPlacement;
 use metadata::MetadataAllocatorState;
 use metadata::RetiredReplicaLifetime;
@@ -34,26 +33,21 @@ pub fn create_tablet_step(s: Store, t: TabletDescriptor) -> Answered
     ensures { λ r. ⌜ r ≡ step s (tablet t) ⌝ }
 {
     let directory = s.directory;
-    let catalog = s.catalog;
-    let tables = catalog.tables;
-    let placements = catalog.placements;
-    let retirements = catalog.retirements;
-    let done = tablets::apply_create_tablet(directory.cluster_id, tables, catalog.tablets, t);
+    let mut catalog = s.catalog;
+    let done = tablets::apply_create_tablet(
+        directory.cluster_id,
+        catalog.tables,
+        catalog.tablets,
+        t,
+    );
     let answer = done.answer;
     let tablets = done.tablets;
     let marks = marks_after_tablet(answer, catalog.marks, t);
+    catalog.tablets = tablets;
+    catalog.marks = marks;
     Answered {
         answer,
-        store: Store {
-            directory,
-            catalog: Catalog {
-                tables,
-                tablets,
-                placements,
-                retirements,
-                marks,
-            },
-        },
+        store: Store { directory, catalog },
     }
 }
 
@@ -63,32 +57,20 @@ pub fn replica_retirement_step(s: Store, x: RetiredReplicaLifetime) -> Answered
     ensures { λ r. ⌜ r ≡ step s (retirement x) ⌝ }
 {
     let directory = s.directory;
-    let catalog = s.catalog;
-    let tables = catalog.tables;
-    let tablets = catalog.tablets;
-    let placements = catalog.placements;
-    let marks = catalog.marks;
+    let mut catalog = s.catalog;
     let done = retirements::apply_replica_retirement(
         directory.cluster_id,
-        tablets,
-        placements,
+        catalog.tablets,
+        catalog.placements,
         catalog.retirements,
         x,
     );
     let answer = done.answer;
     let retirements = done.retirements;
+    catalog.retirements = retirements;
     Answered {
         answer,
-        store: Store {
-            directory,
-            catalog: Catalog {
-                tables,
-                tablets,
-                placements,
-                retirements,
-                marks,
-            },
-        },
+        store: Store { directory, catalog },
     }
 }
 
@@ -111,32 +93,22 @@ pub fn desired_placement_step(s: Store, p: DesiredReplicaPlacement) -> Answered
     ensures { λ r. ⌜ r ≡ step s (placement p) ⌝ }
 {
     let directory = s.directory;
-    let catalog = s.catalog;
-    let tables = catalog.tables;
-    let tablets = catalog.tablets;
-    let retirements = catalog.retirements;
+    let mut catalog = s.catalog;
     let done = placements::apply_desired_placement(
         directory.cluster_id,
         directory.nodes,
-        tablets,
+        catalog.tablets,
         catalog.placements,
-        retirements,
+        catalog.retirements,
         p,
     );
     let answer = done.answer;
     let placements = done.placements;
     let marks = marks_after_placement(answer, catalog.marks, p);
+    catalog.placements = placements;
+    catalog.marks = marks;
     Answered {
         answer,
-        store: Store {
-            directory,
-            catalog: Catalog {
-                tables,
-                tablets,
-                placements,
-                retirements,
-                marks,
-            },
-        },
+        store: Store { directory, catalog },
     }
 }

@@ -11,7 +11,8 @@ use Rattle.lines.specs.Lines.{lineText, Appended}
 use Rattle.lines.proofs.Texts.{joined}
 use Rattle.metadata.specs.Answers.{reported}
 use Rattle.metadata.specs.Model.{step}
-use Rattle.metadata.specs.Sound.{sound, run}
+use Rattle.metadata.specs.Commands.{Command}
+use Rattle.metadata.specs.Sound.{sound, entry, run}
 use Rattle.metadata.specs.declared.Answer.{Answer}
 use Rattle.metadata.specs.declared.Answer.the-variants as A
 use Rattle.metadata.specs.declared.Answered.{Answered}
@@ -42,9 +43,22 @@ unfolding lineBehind
 behind-more n [] a = refl
 behind-more n (x ∷ l) a = behind-more (nextLine n) l a
 
+-- ---- one command more
+
+run-last : (s : Store) (cs : List Command) (c : Command) → run s (cs ++ c ∷ []) ≡ entry (run s cs) c .store
+run-last s [] c = refl
+run-last s (x ∷ cs) c = run-last (entry s x .store) cs c
+
+pub run-both : (s : Store) (cs ds : List Command) → run s (cs ++ ds) ≡ run (run s cs) ds
+run-both s [] ds = refl
+run-both s (x ∷ cs) ds = run-both (entry s x .store) cs ds
+
 -- ---- the loop: what was run so far, and its lines
 
 pub record Feeding (l : List ℕ) (s₀ : Store) (from first : ℕ) (old : List ℕ) (s : Store) (at line used : ℕ) (out : List ℕ) : Type 0 where
+  pub commands : List Command
+  pub ran : s ≡ run s₀ commands
+  pub first-ones : readFrom l from .commands ≡ commands ++ readFrom l at .commands
   pub done : List Answer
   pub split : tapeAnswers s₀ (readFrom l from) ≡ done ++ tapeAnswers s (readFrom l at)
   pub store : run s₀ (readFrom l from .commands) ≡ run s (readFrom l at .commands)
@@ -57,6 +71,9 @@ pub feed-start : (l : List ℕ) (s₀ : Store) (from first : ℕ) (old : List �
 unfolding linesText lineBehind
 feed-start l s₀ from first old e h =
     record {
+      commands = [];
+      ran = refl;
+      first-ones = refl;
       done = [];
       split = refl;
       store = refl;
@@ -95,6 +112,13 @@ module _ (l : List ℕ) (s₀ : Store) (from first : ℕ) (old : List ℕ) (s : 
       Feeding l s₀ from first old s′ m line′ n new
   feed-next x b m q e a s′ r new n line′ d p g z =
       record {
+        commands = k .commands ++ commandAt b l (at + 1) ∷ [];
+        ran =
+            ap (λ (t : Answered). t .store) (d ∙ sym (entry-step s (commandAt b l (at + 1)) (k .sounds)))
+            ∙ ap (λ (t : Store). entry t (commandAt b l (at + 1)) .store) (k .ran) ∙ sym (run-last s₀ (k .commands) (commandAt b l (at + 1)));
+        first-ones =
+            k .first-ones ∙ ap (λ (t : Reading). k .commands ++ t .commands) (read-whole l at b m (sym q ∙ e))
+            ∙ sym (append-assoc (k .commands) (commandAt b l (at + 1) ∷ []) (readFrom l m .commands));
         done = k .done ++ a ∷ [];
         split =
             k .split ∙ ap (λ (t : Reading). k .done ++ tapeAnswers s t) (read-whole l at b m (sym q ∙ e))
@@ -124,6 +148,9 @@ module _ (l : List ℕ) (s₀ : Store) (from first : ℕ) (old : List ℕ) (h : 
   feed-full f j =
       subst (λ (x : Chunk). Left x out) (sym f)
       (record {
+        commands = k .commands;
+        ran = k .ran;
+        first-ones = k .first-ones;
         done = k .done;
         split = k .split;
         store = k .store;
@@ -142,6 +169,9 @@ module _ (l : List ℕ) (s₀ : Store) (from first : ℕ) (old : List ℕ) (h : 
   none-left f q =
       subst (λ (x : Chunk). Left x out) (sym f)
       (record {
+        commands = k .commands;
+        ran = k .ran;
+        first-ones = k .first-ones;
         done = k .done;
         split = k .split;
         store = k .store;
@@ -170,6 +200,9 @@ module _ (l : List ℕ) (s₀ : Store) (from first : ℕ) (old : List ℕ) (h : 
         let w = read-unknown l at b (sym q ∙ e) in
         subst (λ (x : Chunk). Left x new) (sym f)
         (record {
+          commands = k .commands;
+          ran = k .ran;
+          first-ones = k .first-ones;
           done = k .done ++ A.BadTape 1 b ∷ [];
           split = k .split ∙ ap (λ (y : Reading). k .done ++ tapeAnswers (lentStore h ns ts ps rs) y) w ∙ sym (append-nil (k .done ++ A.BadTape 1 b ∷ []));
           store = k .store;

@@ -6,6 +6,7 @@ use mathlib.Core.List.{List, [], _∷_, _++_}
 use lib.ListN.{length}
 use Rattle.lines.specs.Lines.{lineText, Appended}
 use Rattle.metadata.specs.Answers.{reported}
+use Rattle.metadata.specs.Commands.{Command}
 use Rattle.metadata.specs.Sound.{sound, run}
 use Rattle.metadata.specs.declared.Answer.{Answer}
 use Rattle.metadata.specs.declared.Store.{Store}
@@ -31,9 +32,17 @@ unfoldable pub lineBehind : ℕ → List Answer → ℕ
 lineBehind n [] = n
 lineBehind n (a ∷ l) = lineBehind (nextLine n) l
 
+-- commands lead from the one store to the other
+pub record Reached (s s′ : Store) : Type 0 where
+  pub commands : List Command
+  pub ran : s′ ≡ run s commands
+
 -- A chunk l was run from a place on, on a store s, its lines written at the start of a list; s′ is the store that is left.
--- `done` are the answers that were written; those of the commands left, on the store left, are behind them. A tape stops at a `byte` that is no command.
+-- `commands` were run, the first that stand there; `done` are the answers that were written, and those of the commands left, on the store left, are behind them. A tape stops at a `byte` that is no command.
 pub record Fed (l : List ℕ) (s : Store) (from first : ℕ) (old : List ℕ) (c : Chunk) (s′ : Store) (new : List ℕ) : Type 0 where
+  pub commands : List Command
+  pub ran : s′ ≡ run s commands
+  pub first-ones : readFrom l from .commands ≡ commands ++ readFrom l (c .at) .commands
   pub done : List Answer
   pub split : tapeAnswers s (readFrom l from) ≡ done ++ cond (c .stopped) [] (tapeAnswers s′ (readFrom l (c .at)))
   pub store : run s (readFrom l from .commands) ≡ run s′ (readFrom l (c .at) .commands)

@@ -29,6 +29,26 @@ last-endpoint n (suc (suc zero)) a b c = absurd (c refl)
 last-endpoint n (suc (suc (suc zero))) a b c = refl
 last-endpoint n (suc (suc (suc (suc j)))) a b c = refl
 
+-- ---- the existing node's fields in turn: a, b, c and d say whether each is t
+module _ (old : NodeDescriptor) (j : ℕ) (t : Name) (a : Bool) (p : a ≡ sameName (old .«raft_addr») t) where
+  pub clash-raft : a ≡ true → At (old .«node_id») j 0 ≡ clashAt old j t
+  clash-raft h = rw (← p, h)
+
+  module _ (h : a ≡ false) (b : Bool) (q : b ≡ sameName (old .«snapshot_addr») t) where
+    pub clash-snapshot : b ≡ true → At (old .«node_id») j 1 ≡ clashAt old j t
+    clash-snapshot k = rw (← p, h, ← q, k)
+
+    module _ (k : b ≡ false) (c : Bool) (r : c ≡ sameName (old .«sql_addr») t) where
+      pub clash-sql : c ≡ true → At (old .«node_id») j 2 ≡ clashAt old j t
+      clash-sql m = rw (← p, h, ← q, k, ← r, m)
+
+      module _ (m : c ≡ false) (d : Bool) (s : d ≡ sameName (old .«admin_addr») t) where
+        pub clash-admin : d ≡ true → At (old .«node_id») j 3 ≡ clashAt old j t
+        clash-admin n = rw (← p, h, ← q, k, ← r, m, ← s, n)
+
+        pub clash-none : d ≡ false → Nothing ≡ clashAt old j t
+        clash-none n = rw (← p, h, ← q, k, ← r, m, ← s, n)
+
 -- ---- a clash in the field at hand decides, else the rest does
 none-here : (old : NodeDescriptor) (j : ℕ) (f : Found) (rest : Clash) → isClash (onFound f (λ (k : ℕ). At (old .«node_id») j k) Nothing) ≡ false
     → onFound f (λ (k : ℕ). At (old .«node_id») j k) rest ≡ rest

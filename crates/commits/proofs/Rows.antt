@@ -64,9 +64,6 @@ module _ (k count : ℕ) (l : List (List ℕ)) (f : Found) (e : f ≡ findIndex 
 -- ---- a command each: x are the bytes of its row
 
 module _ (h : Held) (rows rows′ : List (List ℕ)) (long : length rows′ ≡ length rows) where
-  pub nodes-left : (n : ℕ) (t : Nodes) → lentNodes n rows′ ≡ t → NodesLeft t h (counted h n (h .tablets) (h .placements) (h .retirements) (h .marks)) rows rows′
-  nodes-left n t q = record { rest = refl; table = q; whole = long }
-
   -- k and to are what the code read of the tape
   pub lifecycle-left : (tape : List ℕ) (at k to : ℕ) → k ≡ numberAt 8 tape at → to ≡ byteAt tape (at + 8) →
       lentNodes (h .nodes) rows′ ≡ nodesMoved (lentNodes (h .nodes) rows) (record { 0 = k }) to →

@@ -1,18 +1,14 @@
 -- The store that an Applied command leaves, command by command. Assumes nothing.
-use Prim.Native.Nat.{ℕ, _+_, _≤_, _<_}
-use native.Mathlib.Omega.{arith}
-use mathlib.Core.Path.{_≡_, refl, sym, ap, _∙_, subst}
+use Prim.Native.Nat.{ℕ, _+_, _<_}
+use mathlib.Core.Path.{_≡_, refl, sym, ap, _∙_}
 use mathlib.Core.Bool.{true, false}
 use mathlib.Core.List.{List}
-use lib.Dec.{leb}
 use lib.ListN.{length, getD}
 use borrow.Author.Needs.{needs}
-use borrow.Author.Tests.{leb-true}
 use Rattle.commits.specs.Left.{nodesMoved, nodesRegistered, named, NodesLeft, TabletsLeft, PlacementsLeft, RetirementsLeft, Change, Left}
 use Rattle.decode.specs.Decode.{numberAt, byteAt, nameAt, nodeAt, tabletAt, placementAt, retirementAt}
 use Rattle.held.specs.Stores.{lentStore, Whole}
 use Rattle.held.specs.declared.Held.{Held}
-use Rattle.laws.proofs.ListLaws.{and-both}
 use Rattle.laws.specs.Keyed.{has}
 use Rattle.laws.specs.Rows.{findIndex, onFound}
 use Rattle.laws.specs.declared.Found.{Found}
@@ -36,7 +32,8 @@ use Rattle.metadata.specs.declared.Store.{Store}
 use Rattle.metadata.specs.declared.Tablets.{Tablets}
 use Rattle.step_laws.proofs.Placed.{applied-put}
 use Rattle.rows.specs.Results.{placementsPut}
-use Rattle.reading.specs.Reader.{isCommand, sizeOf, commandAt}
+use Rattle.reading.proofs.Sizes.{last, room-1, room-2, room-3, room-4, room-5, room-6}
+use Rattle.reading.specs.Reader.{commandAt}
 use Rattle.step_laws.proofs.Registered.{row-new, row-goes-on, applied-room}
 use Rattle.step_laws.proofs.Retired.{retirement-put}
 use Rattle.rows.specs.Results.{under, nodesWith, nodesSet, tabletsWith, retirementsWith}
@@ -62,17 +59,6 @@ module _ (t : Nodes) (s : soundTable nodeKey isZeroNode nodeRoom (t .count) (t .
           onFound f (λ (i : ℕ). nodesSet t i (withLifecycle (getD (t .rows) i zeroNode) (n .lifecycle))) (nodesWith t n .nodes) ≡ packNodes (registeredNodes n (viewNodes t))
       go (At i) e = row-goes-on t s n (At i) e i (nodesSet t i (withLifecycle (getD (t .rows) i zeroNode) (n .lifecycle))) refl refl
       go Nothing e = row-new t s n Nothing e (nodesWith t n) refl room refl
-
--- ---- which command it is
-
-bounds : (b : ℕ) → isCommand b ≡ true → (1 ≤ b) × (b ≤ 7)
-bounds b k = let g = and-both (leb 1 b) (leb b 7) k in (leb-true 1 b (g .0), leb-true b 7 (g .1))
-
-last : (b : ℕ) → isCommand b ≡ true → (b ≡ 1 → ⊥) → (b ≡ 2 → ⊥) → (b ≡ 3 → ⊥) → (b ≡ 4 → ⊥) → (b ≡ 5 → ⊥) → (b ≡ 6 → ⊥) → b ≡ 7
-last b k n1 n2 n3 n4 n5 n6 = go b (bounds b k .0) (bounds b k .1) n1 n2 n3 n4 n5 n6
-  where
-    go : (b : ℕ) → 1 ≤ b → b ≤ 7 → (b ≡ 1 → ⊥) → (b ≡ 2 → ⊥) → (b ≡ 3 → ⊥) → (b ≡ 4 → ⊥) → (b ≡ 5 → ⊥) → (b ≡ 6 → ⊥) → b ≡ 7
-    go b p q n1 n2 n3 n4 n5 n6 = omega arith
 
 -- ---- a sound store, and an Applied command at a place
 
@@ -154,33 +140,6 @@ module _ (s : Store) (e : sound s ≡ true) (b : ℕ) (l : List ℕ) (at : ℕ) 
 module _ (h : Held) (ns ts ps rs : List (List ℕ)) (b : ℕ) (l : List ℕ) (at : ℕ) (c : Change h ns ts ps rs b l at) where
   abbrev s : Store
   s = lentStore h ns ts ps rs
-
-  size : (n k : ℕ) → b ≡ n → sizeOf n ≡ k → at + k ≤ length l
-  size n k e q = subst (λ (j : ℕ). at + j ≤ length l) (ap sizeOf e ∙ q) (c .fits)
-
-  pub size-1 : b ≡ 1 → at + 49 ≤ length l
-  unfolding sizeOf
-  size-1 e = size 1 49 e refl
-
-  pub size-2 : b ≡ 2 → at + 305 ≤ length l
-  unfolding sizeOf
-  size-2 e = size 2 305 e refl
-
-  pub size-3 : b ≡ 3 → at + 9 ≤ length l
-  unfolding sizeOf
-  size-3 e = size 3 9 e refl
-
-  pub size-4 : b ≡ 4 → at + 107 ≤ length l
-  unfolding sizeOf
-  size-4 e = size 4 107 e refl
-
-  pub size-5 : b ≡ 5 → at + 234 ≤ length l
-  unfolding sizeOf
-  size-5 e = size 5 234 e refl
-
-  pub size-6 : b ≡ 6 → at + 48 ≤ length l
-  unfolding sizeOf
-  size-6 e = size 6 48 e refl
 
   pub left-named : (r : Held) → b ≡ 1 → r ≡ named h (record { present = true; text = nameAt l at }) → Left h ns ts ps rs b l at r ns ts ps rs
   unfolding lentStore
@@ -266,4 +225,4 @@ module _ (h : Held) (ns ts ps rs : List (List ℕ)) (b : ℕ) (l : List ℕ) (at
 
 -- for `search committing` at each need
 pub ruleset committing =
-    (size-1, size-2, size-3, size-4, size-5, size-6, left-named, left-registered, left-moved, left-tablet, left-placement, left-retirement, left-nothing, needs)
+    (room-1, room-2, room-3, room-4, room-5, room-6, left-named, left-registered, left-moved, left-tablet, left-placement, left-retirement, left-nothing, needs)

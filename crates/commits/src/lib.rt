@@ -15,6 +15,7 @@ use held::Held;
 use laws::Found;
 use lent_nodes::find_node;
 use lent_nodes::insert_node;
+use lent_placements::put_placement;
 use lent_retirements::insert_retirement;
 use lent_rows::NodeRow;
 use lent_rows::PlacementRow;
@@ -30,7 +31,6 @@ use marks::raised_by_placement;
 use marks::raised_by_tablet;
 use metadata::NodeId;
 use metadata::OptionalName;
-use placement_answers::put_placement;
 
 // ---- the nodes
 

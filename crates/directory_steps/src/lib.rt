@@ -5,7 +5,6 @@ ghost use Rattle.metadata.specs.Commands.{naming, registering, lifecycle, picki
 ghost use Rattle.metadata.specs.Model.{step};
 ghost use Rattle.metadata.specs.Sound.{sound};
 use metadata::Answered;
-use metadata::Directory;
 use metadata::Name;
 use metadata::NodeDescriptor;
 use metadata::NodeId;
@@ -26,18 +25,15 @@ pub fn cluster_initialized_step(s: Store, t: Name) -> Answered
     requires { ⌜ sound s ≡ true ⌝ }
     ensures { λ r. ⌜ r ≡ step s (naming t) ⌝ }
 {
-    let directory = s.directory;
+    let mut directory = s.directory;
     let catalog = s.catalog;
-    let nodes = directory.nodes;
     let done = naming::apply_cluster_initialized(directory.cluster_id, t);
     let answer = done.answer;
     let cluster_id = done.cluster_id;
+    directory.cluster_id = cluster_id;
     Answered {
         answer,
-        store: Store {
-            directory: Directory { cluster_id, nodes },
-            catalog,
-        },
+        store: Store { directory, catalog },
     }
 }
 
@@ -46,11 +42,10 @@ pub fn register_node_step(s: Store, n: NodeDescriptor) -> Answered
     requires { ⌜ sound s ≡ true ⌝ }
     ensures { λ r. ⌜ r ≡ step s (registering n) ⌝ }
 {
-    let directory = s.directory;
+    let mut directory = s.directory;
     let catalog = s.catalog;
-    let cluster_id = directory.cluster_id;
     let done = registering::apply_register_node(
-        cluster_id,
+        directory.cluster_id,
         directory.nodes,
         catalog.tablets,
         catalog.placements,
@@ -58,12 +53,10 @@ pub fn register_node_step(s: Store, n: NodeDescriptor) -> Answered
     );
     let answer = done.answer;
     let nodes = done.nodes;
+    directory.nodes = nodes;
     Answered {
         answer,
-        store: Store {
-            directory: Directory { cluster_id, nodes },
-            catalog,
-        },
+        store: Store { directory, catalog },
     }
 }
 
@@ -72,11 +65,10 @@ pub fn set_node_lifecycle_step(s: Store, k: NodeId, to: u8) -> Answered
     requires { ⌜ sound s ≡ true ⌝ }
     ensures { λ r. ⌜ r ≡ step s (lifecycle k to) ⌝ }
 {
-    let directory = s.directory;
+    let mut directory = s.directory;
     let catalog = s.catalog;
-    let cluster_id = directory.cluster_id;
     let done = lifecycle::apply_set_node_lifecycle(
-        cluster_id,
+        directory.cluster_id,
         directory.nodes,
         catalog.tablets,
         catalog.placements,
@@ -85,11 +77,9 @@ pub fn set_node_lifecycle_step(s: Store, k: NodeId, to: u8) -> Answered
     );
     let answer = done.answer;
     let nodes = done.nodes;
+    directory.nodes = nodes;
     Answered {
         answer,
-        store: Store {
-            directory: Directory { cluster_id, nodes },
-            catalog,
-        },
+        store: Store { directory, catalog },
     }
 }

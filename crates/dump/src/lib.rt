@@ -5,6 +5,7 @@ ghost use mathlib.Core.List.{[]};
 ghost use lib.ListN.{length, getD};
 ghost use Rattle.lines.specs.Lines.{Appended};
 ghost use Rattle.metadata.specs.Model.{viewNodes, viewTables, viewTablets, viewPlacements, viewRetirements};
+ghost use Rattle.metadata.specs.Rooms.{nodeRoom, tableRoom, tabletRoom, retirementRoom};
 ghost use Rattle.dump.specs.Dump.{lineRoom, fromMarks, fromRetired, fromPlacements, fromTablets, fromTables, fromNodes, dumpLines};
 use metadata::NODE_ROOM;
 use metadata::Nodes;
@@ -40,31 +41,31 @@ pub const LINE_ROOM: usize = 1024;
 // ---- how many rows of each table are in use
 
 fn nodes_used(t: Nodes) -> usize
-    ensures { λ r. ⌜ r ≡ length (viewNodes t) ⌝ }
+    ensures { λ r. ⌜ (r ≡ length (viewNodes t)) × (r ≤ nodeRoom) ⌝ }
 {
     used(t.count, NODE_ROOM)
 }
 
 fn tables_used(t: Tables) -> usize
-    ensures { λ r. ⌜ r ≡ length (viewTables t) ⌝ }
+    ensures { λ r. ⌜ (r ≡ length (viewTables t)) × (r ≤ tableRoom) ⌝ }
 {
     used(t.count, TABLE_ROOM)
 }
 
 fn tablets_used(t: Tablets) -> usize
-    ensures { λ r. ⌜ r ≡ length (viewTablets t) ⌝ }
+    ensures { λ r. ⌜ (r ≡ length (viewTablets t)) × (r ≤ tabletRoom) ⌝ }
 {
     used(t.count, TABLET_ROOM)
 }
 
 fn placements_used(t: Placements) -> usize
-    ensures { λ r. ⌜ r ≡ length (viewPlacements t) ⌝ }
+    ensures { λ r. ⌜ (r ≡ length (viewPlacements t)) × (r ≤ tabletRoom) ⌝ }
 {
     used(t.count, TABLET_ROOM)
 }
 
 fn retirements_used(t: Retirements) -> usize
-    ensures { λ r. ⌜ r ≡ length (viewRetirements t) ⌝ }
+    ensures { λ r. ⌜ (r ≡ length (viewRetirements t)) × (r ≤ retirementRoom) ⌝ }
 {
     used(t.count, RETIREMENT_ROOM)
 }
@@ -156,7 +157,7 @@ fn put_from_nodes(out: &mut [u8], s: Store, k: usize) -> usize
     put_from_tables(out, s, k - n)
 }
 
-// Line k of the dump; nothing past the last. A program prints the dump by k = 0, 1, .. until the result is 0.
+// Line k of the dump; nothing past the last.
 pub fn put_dump_line(out: &mut [u8], s: Store, k: usize) -> usize
     requires { ⌜ lineRoom ≤ length (now out) ⌝ }
     ensures { λ r. ⌜ Appended (getD (dumpLines s) k []) (now (out .entry)) 0 (now (out .exit)) r ⌝ }
@@ -166,4 +167,18 @@ pub fn put_dump_line(out: &mut [u8], s: Store, k: usize) -> usize
         return put_cluster(out, 0, directory.cluster_id);
     }
     put_from_nodes(out, s, k - 1)
+}
+
+// How many lines the dump has: one for each row, the name's, and the last three.
+pub fn line_count(s: Store) -> usize
+    ensures { λ r. ⌜ r ≡ length (dumpLines s) ⌝ }
+{
+    let directory = s.directory;
+    let catalog = s.catalog;
+    let nodes = nodes_used(directory.nodes);
+    let tables = tables_used(catalog.tables);
+    let tablets = tablets_used(catalog.tablets);
+    let placements = placements_used(catalog.placements);
+    let retirements = retirements_used(catalog.retirements);
+    nodes + tables + tablets + placements + retirements + 4
 }

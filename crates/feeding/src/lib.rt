@@ -2,6 +2,7 @@
 ghost use mathlib.Core.Path.{_≡_};
 ghost use mathlib.Core.Bool.{true};
 ghost use Prim.Native.Nat.{_≤_};
+ghost use Rattle.chunks.specs.Chunks.{Reached};
 ghost use Rattle.held.specs.Stores.{lentStore, Whole, Empty};
 ghost use Rattle.metadata.specs.Sound.{sound};
 ghost use Rattle.feeding.specs.Feeding.{GoodFeed};
@@ -45,7 +46,7 @@ fn turn(
     first: u64,
 ) -> Feed
     requires { ⌜ (sound (lentStore held (now nodes) (now tablets) (now placements) (now retirements)) ≡ true) × Whole (now nodes) (now tablets) (now placements) (now retirements) × ((from ≤ have) × (have ≤ bufferSize)) ⌝ }
-    ensures { λ r. ⌜ GoodFeed r (now (nodes .exit)) (now (tablets .exit)) (now (placements .exit)) (now (retirements .exit)) ⌝ }
+    ensures { λ r. ⌜ GoodFeed r (now (nodes .exit)) (now (tablets .exit)) (now (placements .exit)) (now (retirements .exit)) × Reached (lentStore held (now (nodes .entry)) (now (tablets .entry)) (now (placements .entry)) (now (retirements .entry))) (lentStore (r .held) (now (nodes .exit)) (now (tablets .exit)) (now (placements .exit)) (now (retirements .exit))) ⌝ }
 {
     let mut out = io::large_buffer();
     let c = run_chunk(
@@ -105,7 +106,7 @@ fn feed_all(
     retirements: &mut [RetirementRow],
 ) -> Held
     requires { ⌜ GoodFeed start (now nodes) (now tablets) (now placements) (now retirements) ⌝ }
-    ensures { λ r. ⌜ (sound (lentStore r (now (nodes .exit)) (now (tablets .exit)) (now (placements .exit)) (now (retirements .exit))) ≡ true) × Whole (now (nodes .exit)) (now (tablets .exit)) (now (placements .exit)) (now (retirements .exit)) ⌝ }
+    ensures { λ r. ⌜ (sound (lentStore r (now (nodes .exit)) (now (tablets .exit)) (now (placements .exit)) (now (retirements .exit))) ≡ true) × Whole (now (nodes .exit)) (now (tablets .exit)) (now (placements .exit)) (now (retirements .exit)) × Reached (lentStore (start .held) (now (nodes .entry)) (now (tablets .entry)) (now (placements .entry)) (now (retirements .entry))) (lentStore r (now (nodes .exit)) (now (tablets .exit)) (now (placements .exit)) (now (retirements .exit))) ⌝ }
 {
     let mut f = start;
     let mut turns = u64::MAX;
@@ -142,7 +143,7 @@ fn run_tape(
     have: usize,
 ) -> Held
     requires { ⌜ (sound (lentStore held (now nodes) (now tablets) (now placements) (now retirements)) ≡ true) × Whole (now nodes) (now tablets) (now placements) (now retirements) × (have ≤ bufferSize) ⌝ }
-    ensures { λ r. ⌜ (sound (lentStore r (now (nodes .exit)) (now (tablets .exit)) (now (placements .exit)) (now (retirements .exit))) ≡ true) × Whole (now (nodes .exit)) (now (tablets .exit)) (now (placements .exit)) (now (retirements .exit)) ⌝ }
+    ensures { λ r. ⌜ (sound (lentStore r (now (nodes .exit)) (now (tablets .exit)) (now (placements .exit)) (now (retirements .exit))) ≡ true) × Whole (now (nodes .exit)) (now (tablets .exit)) (now (placements .exit)) (now (retirements .exit)) × Reached (lentStore held (now (nodes .entry)) (now (tablets .entry)) (now (placements .entry)) (now (retirements .entry))) (lentStore r (now (nodes .exit)) (now (tablets .exit)) (now (placements .exit)) (now (retirements .exit))) ⌝ }
 {
     let at = reading::body_at(&buf[..have]);
     if have < at {
@@ -169,7 +170,7 @@ fn run_tape(
 // The same from the opened store, whose four large tables have no rows; the store that is left.
 pub fn run_opened(store: Store, buf: [u8; BUFFER_SIZE], have: usize) -> Store
     requires { ⌜ (sound store ≡ true) × Empty store × (have ≤ bufferSize) ⌝ }
-    ensures { λ r. ⌜ sound r ≡ true ⌝ }
+    ensures { λ r. ⌜ (sound r ≡ true) × Reached store r ⌝ }
 {
     let mut nodes = no_nodes();
     let mut tablets = no_tablets();

@@ -18,6 +18,7 @@ use Rattle.metadata.specs.declared.Placements.{Placements}
 use Rattle.metadata.specs.declared.Retirements.{Retirements}
 use Rattle.metadata.specs.declared.Store.{Store}
 use Rattle.held.specs.Stores.{lentStore, Empty, Opens}
+use Rattle.held.specs.declared.Held.{Held}
 
 -- ---- rows of bytes that are the rows of zeros
 
@@ -100,3 +101,13 @@ opens s e ns ts ps rs a b c d = λ i.
             marks = s .catalog .marks;
           };
     }
+
+-- ---- the store, by its four tables
+pub store-made : (h : Held) (nodes tablets placements retirements : List (List ℕ)) (n : Nodes) (t : Tablets) (p : Placements) (r : Retirements) → n ≡ lentNodes (h .nodes) nodes →
+    t ≡ lentTablets (h .tablets) tablets → p ≡ lentPlacements (h .placements) placements → r ≡ lentRetirements (h .retirements) retirements →
+    record {
+      directory = record { «cluster_id» = h .«cluster_id»; nodes = n };
+      catalog = record { tables = h .tables; tablets = t; placements = p; retirements = r; marks = h .marks };
+    } ≡ lentStore h nodes tablets placements retirements
+unfolding lentStore
+store-made h nodes tablets placements retirements n t p r a b c d = rw (a, b, c, d)

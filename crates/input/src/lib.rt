@@ -1,7 +1,8 @@
 // The tape on standard input: what is left of a buffer goes to its front, and more is read behind it.
-ghost use mathlib.Core.Bool.{true};
-ghost use Prim.Native.Nat.{_≤_};
-ghost use Rattle.input.specs.Buffers.{bufferSize};
+ghost use mathlib.Core.Path.{_≡_};
+ghost use Prim.Native.Nat.{_+_, _≤_};
+ghost use lib.ListN.{take, drop};
+ghost use Rattle.input.specs.Buffers.{bufferSize, Kept};
 use libc::STDIN_FILENO;
 use metadata::Answer;
 use printing::print_line;
@@ -18,13 +19,14 @@ pub struct Filled {
 }
 
 // The bytes from a place on, at the front.
-fn moved(buf: [u8; BUFFER_SIZE], at: usize, have: usize) -> [u8; BUFFER_SIZE]
-    requires { ⌜ (at ≤ have) × (have ≤ bufferSize) ⌝ }
+fn moved(buf: [u8; BUFFER_SIZE], at: usize, n: usize) -> [u8; BUFFER_SIZE]
+    requires { ⌜ at + n ≤ bufferSize ⌝ }
+    ensures { λ r. ⌜ take n r ≡ take n (drop at buf) ⌝ }
 {
     let mut out = buf;
-    let mut i = at;
-    while i < have {
-        out[i - at] = buf[i];
+    let mut i: usize = 0;
+    while i < n {
+        out[i] = buf[at + i];
         i += 1;
     }
     out
@@ -47,10 +49,10 @@ fn finish(buf: [u8; BUFFER_SIZE], left: usize, line: u64)
 // The bytes from a place on, and more of the input behind them.
 pub fn refill(buf: [u8; BUFFER_SIZE], at: usize, have: usize, line: u64) -> Filled
     requires { ⌜ (at ≤ have) × (have ≤ bufferSize) ⌝ }
-    ensures { λ r. ⌜ r .have ≤ bufferSize ⌝ }
+    ensures { λ r. ⌜ (r .have ≤ bufferSize) × Kept at have buf (r .buf) (r .have) ⌝ }
 {
     let left = have - at;
-    let mut front = moved(buf, at, have);
+    let mut front = moved(buf, at, left);
     let got = io::read_full(STDIN_FILENO, &mut front[left..]);
     if got == 0 {
         finish(front, left, line);

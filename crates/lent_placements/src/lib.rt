@@ -11,7 +11,7 @@ ghost use Rattle.metadata.specs.Rooms.{tabletRoom};
 ghost use Rattle.metadata.specs.Tables.{placementKey, blankPlacement, zeroPlacement};
 ghost use Rattle.metadata.specs.declared.DesiredReplicaPlacement.{DesiredReplicaPlacement};
 ghost use Rattle.lent_rows.specs.Lent.{placementRow, lentPlacements};
-ghost use Rattle.rows.specs.Results.{openedRows, under, placementsWith};
+ghost use Rattle.rows.specs.Results.{openedRows, under, placementsWith, placementsPut};
 use decode::number8;
 use laws::Found;
 use lent_rows::PlacementRow;
@@ -108,4 +108,17 @@ pub fn insert_placement(rows: &mut [PlacementRow], count: usize, x: PlacementRow
     let at = place(placement_behind(&rows[..], count, number8(&x, 0)), count);
     open_placement(rows, count, at, x);
     count + 1
+}
+
+// Inner: the run shows that all rows are lent. The row in place of the stored one, or at its own place among the others; how many are in use then.
+pub fn put_placement(rows: &mut [PlacementRow], count: usize, x: PlacementRow) -> usize
+    requires { ⌜ length (now rows) ≡ tabletRoom ⌝ }
+    ensures { λ r. ⌜ (lentPlacements r (now (rows .exit)) ≡ placementsPut (lentPlacements count (now (rows .entry))) (placementRow x)) × (length (now (rows .exit)) ≡ length (now (rows .entry))) ⌝ }
+{
+    let id = TabletId(number8(&x, 0));
+    let Found::At(i) = find_placement(&rows[..], count, id) else {
+        return insert_placement(rows, count, x);
+    };
+    rows[i] = x;
+    count
 }

@@ -1,19 +1,17 @@
 -- The ways out of the lifecycle's checks: what the place knows, and the answer there. Assumes nothing.
-use Prim.Native.Nat.{ℕ, _<_}
-use native.Mathlib.Omega.{arith}
+use Prim.Native.Nat.{ℕ}
 use mathlib.Core.Path.{_≡_, refl, sym, ap, _∙_}
 use mathlib.Core.Bool.{Bool, true, false, not, cond, _&&_, _||_}
 use mathlib.Core.List.{List, map}
 use lib.Dec.{eqb}
-use lib.ListN.{length, getD, take}
+use lib.ListN.{getD, take}
 use borrow.Author.Tests.{eq-eqb, ne-eqb}
 use Rattle.laws.specs.declared.Found.{Found}
 use Rattle.laws.specs.declared.Found.the-variants.{At, Nothing}
 use Rattle.laws.specs.Keyed.{has, row}
 use Rattle.laws.specs.Rows.{findIndex, orElse}
 use Rattle.laws.proofs.KeyedLaws.{row-absent, row-either}
-use Rattle.laws.proofs.Lookups.{found-none, found-row, found-keys, spot}
-use Rattle.metadata.specs.Rooms.{tabletRoom}
+use Rattle.laws.proofs.Lookups.{found-none, found-row, found-keys}
 use Rattle.metadata.specs.Answers.{_⊳_, refuse, each, isApplied}
 use Rattle.metadata.specs.Tables.{nodeKey, placementKey, placementOf, desired, blankNode, zeroNode, blankPlacement}
 use Rattle.metadata.specs.Nodes.{lifecycleCanAdvance, stillExpected, judgeLifecycle}
@@ -43,13 +41,6 @@ module _ (n id : ℕ) (rows : List DesiredReplicaPlacement) (ids : List ℕ) (f 
 
   -- the code reads the row in place j
   module _ (j : ℕ) (q : j ≡ orElse f 0) where
-    inside-go : (h : Found) → f ≡ h → j ≡ orElse h 0 → length rows ≡ tabletRoom → j < tabletRoom
-    inside-go (At i) h p long = omega (arith, p, long, spot placementKey id blankPlacement blankPlacement rows n i (sym searched ∙ h) .inside)
-    inside-go Nothing h p long = omega (arith, p)
-
-    pub inside : length rows ≡ tabletRoom → j < tabletRoom
-    inside long = inside-go f refl q long
-
     by-row-go : (k : NodeId) (group : RaftGroupId) (d : DesiredReplicaPlacement) (h : Found) → f ≡ h → j ≡ orElse h 0
         → expectedOf k group h (getD rows j d) ≡ each (expectedOn k group) (desired (placementOf id (take n rows)))
     unfolding each

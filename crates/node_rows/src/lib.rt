@@ -41,28 +41,12 @@ pub fn find_node(t: Nodes, id: NodeId) -> Found
 pub fn lookup_node(t: Nodes, id: NodeId) -> NodeFound
     ensures { λ r. ⌜ (r .there ≡ has nodeKey (id .0) (viewNodes t)) × (r .row ≡ row nodeKey zeroNode (id .0) (viewNodes t)) ⌝ }
 {
-    let rows = t.rows;
-    let count = t.count;
-    let mut i = 0;
-    while i < count {
-        if NODE_ROOM <= i {
-            return NodeFound {
-                there: false,
-                row: zero_node(),
-            };
-        }
-        if rows[i].node_id.0 == id.0 {
-            return NodeFound {
-                there: true,
-                row: rows[i],
-            };
-        }
-        i += 1;
-    }
-    NodeFound {
-        there: false,
-        row: zero_node(),
-    }
+    let Found::At(i) = find_node(t, id) else {
+        let row = zero_node();
+        return NodeFound { there: false, row };
+    };
+    let row = node_at(t, i);
+    NodeFound { there: true, row }
 }
 
 // Where the first row stands that is behind this one.

@@ -2,16 +2,17 @@
 use Prim.Native.Nat.{ℕ, suc, _+_, _-_, _≤_, _<_}
 use native.Mathlib.Omega.{arith}
 use mathlib.Core.Path.{_≡_, sym, ap, _∙_}
-use mathlib.Core.Bool.{Bool, true, false, not}
+use mathlib.Core.Bool.{Bool, true, false, not, _&&_, _||_}
 use mathlib.Core.List.{List, [], _∷_, _++_}
 use mathlib.Core.Option.{some, none}
+use lib.Dec.{eqb, ltb}
 use lib.ListN.{length, getD, take}
 use lib.Seq.{slice}
 use borrow.Author.Needs.{needs}
 use borrow.Author.Tests.{not-true, not-false}
 use Rattle.laws.proofs.Rows.{next, none-left, no-room-left, length-mapped}
 use Rattle.metadata.specs.Rooms.{initialReplicationFactor}
-use Rattle.metadata.specs.Labels.{better, candidate, stepBest, bestOf, chooseFrom, choose}
+use Rattle.metadata.specs.Labels.{localityGain, better, candidate, stepBest, bestOf, chooseFrom, choose}
 use Rattle.metadata.specs.declared.NodeDescriptor.{NodeDescriptor}
 use Rattle.labels.specs.Picks.{chosenNodes}
 use Rattle.picking.specs.Picked.{bestFound}
@@ -36,6 +37,12 @@ module _ (l : List NodeDescriptor) (b : Best) (n : NodeDescriptor) (t : Bool) (e
     pub loses : u ≡ false → bestFound b ≡ stepBest l (bestFound b) n
     unfolding stepBest
     loses w = simp (sym e ∙ not-false t h, not-false (b .found) k, sym q ∙ w)
+
+-- ---- x and y are what the two nodes gain
+pub better-gains : (chosen : List NodeDescriptor) (a b : NodeDescriptor) (x y : ℕ) → x ≡ localityGain chosen a → y ≡ localityGain chosen b →
+    (ltb y x || (eqb x y && ltb (a .«node_id» .0) (b .«node_id» .0))) ≡ better chosen a b
+unfolding better
+better-gains chosen a b x y p q = rw (p, q)
 
 -- ---- the nodes before row i gave b
 pub record Comparing (d : NodeDescriptor) (chosen : List NodeDescriptor) (room n : ℕ) (l : List NodeDescriptor) (b : Best) (i : ℕ) : Type 0 where

@@ -43,28 +43,12 @@ pub fn find_placement(t: Placements, tablet: TabletId) -> Found
 pub fn lookup_placement(t: Placements, id: TabletId) -> PlacementFound
     ensures { λ r. ⌜ (r .there ≡ has placementKey (id .0) (viewPlacements t)) × (r .row ≡ row placementKey zeroPlacement (id .0) (viewPlacements t)) ⌝ }
 {
-    let rows = t.rows;
-    let count = t.count;
-    let mut i = 0;
-    while i < count {
-        if TABLET_ROOM <= i {
-            return PlacementFound {
-                there: false,
-                row: zero_placement(),
-            };
-        }
-        if rows[i].tablet_id.0 == id.0 {
-            return PlacementFound {
-                there: true,
-                row: rows[i],
-            };
-        }
-        i += 1;
-    }
-    PlacementFound {
-        there: false,
-        row: zero_placement(),
-    }
+    let Found::At(i) = find_placement(t, id) else {
+        let row = zero_placement();
+        return PlacementFound { there: false, row };
+    };
+    let row = placement_at(t, i);
+    PlacementFound { there: true, row }
 }
 
 // The keys of all rows: to search these again and again copies no table.

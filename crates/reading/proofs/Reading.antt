@@ -12,7 +12,7 @@ use Rattle.decode.specs.Decode.{byteAt}
 use Rattle.metadata.specs.declared.Answer.the-variants as A
 use Rattle.reading.specs.declared.Next.{Next}
 use Rattle.reading.specs.declared.Next.the-variants as N
-use Rattle.reading.specs.Reader.{Operands, Reading, ended, stopped, then, nextAt, onNext, read, readFrom, lines, isCommand, sizeOf, commandAt}
+use Rattle.reading.specs.Reader.{Reading, ended, stopped, then, nextAt, onNext, read, readFrom, lines, isCommand, sizeOf, commandAt}
 
 -- ---- what stands at a place, as the code tests it
 
@@ -58,13 +58,6 @@ whole-go l at b m false true true e f g h =
 pub whole : (l : List ℕ) (at b m : ℕ) → nextAt l at ≡ N.Whole b m → Whole l at b m
 unfolding nextAt
 whole l at b m h = whole-go l at b m (leb (length l) at) (isCommand (byteAt l at)) (leb ((at + 1) + sizeOf (byteAt l at)) (length l)) refl refl refl h
-
--- x is what stands at the place
-pub known-of : (l : List ℕ) (at b m : ℕ) (x : Next) → x ≡ nextAt l at → x ≡ N.Whole b m → isCommand b ≡ true
-known-of l at b m x q e = whole l at b m (sym q ∙ e) .known
-
-pub operands-of : (l : List ℕ) (at b m n : ℕ) (x : Next) → x ≡ nextAt l at → x ≡ N.Whole b m → b ≡ n → Operands n b l (at + 1)
-operands-of l at b m n x q e z = let w = whole l at b m (sym q ∙ e) in record { is = z; fits = omega (arith, w .next, w .fits) }
 
 -- ---- any number of turns that is large enough
 

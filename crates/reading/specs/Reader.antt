@@ -1,6 +1,5 @@
 -- What a tape holds (document 01, "the command tape"): its opening, and the commands behind it. Assumes nothing.
-use Prim.Native.Nat.{ℕ, zero, suc, _+_, _*_, _-_, _≤_}
-use mathlib.Core.Path.{_≡_}
+use Prim.Native.Nat.{ℕ, zero, suc, _+_, _*_, _-_}
 use mathlib.Core.Bool.{Bool, cond, _&&_}
 use mathlib.Core.List.{List, [], _∷_, _++_}
 use lib.Dec.{leb, ltb, eqb}
@@ -36,11 +35,6 @@ commandAt b l at =
     (cond (eqb b 3) (lifecycle (record { 0 = numberAt 8 l at }) (byteAt l (at + 8)))
     (cond (eqb b 4) (tablet (tabletAt l at))
     (cond (eqb b 5) (placement (placementAt l at)) (cond (eqb b 6) (retirement (retirementAt l at)) picking)))))
-
--- the byte is command n's, and its operands stand at the place
-pub record Operands (n b : ℕ) (l : List ℕ) (at : ℕ) : Type 0 where
-  pub is : b ≡ n
-  pub fits : at + sizeOf b ≤ length l
 
 -- ---- what a tape holds: whole commands, and then nothing or "40 (1 unknown byte or 2 cut short, command byte)"
 

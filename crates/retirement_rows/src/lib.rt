@@ -55,28 +55,12 @@ pub fn find_retirement(t: Retirements, group: RaftGroupId, replica: ReplicaId) -
 pub fn lookup_retirement(t: Retirements, group: RaftGroupId, replica: ReplicaId) -> RetirementFound
     ensures { λ r. ⌜ (r .there ≡ has retirementKey (group .0, replica .0) (viewRetirements t)) × (r .row ≡ row retirementKey zeroRetirement (group .0, replica .0) (viewRetirements t)) ⌝ }
 {
-    let rows = t.rows;
-    let count = t.count;
-    let mut i = 0;
-    while i < count {
-        if RETIREMENT_ROOM <= i {
-            return RetirementFound {
-                there: false,
-                row: zero_retirement(),
-            };
-        }
-        if has_ids(rows[i], group, replica) {
-            return RetirementFound {
-                there: true,
-                row: rows[i],
-            };
-        }
-        i += 1;
-    }
-    RetirementFound {
-        there: false,
-        row: zero_retirement(),
-    }
+    let Found::At(i) = find_retirement(t, group, replica) else {
+        let row = zero_retirement();
+        return RetirementFound { there: false, row };
+    };
+    let row = retirement_at(t, i);
+    RetirementFound { there: true, row }
 }
 
 // Where the first row stands that is behind this one.

@@ -1,5 +1,5 @@
 -- What the code's search by key tells of the model's lookup, and a full table. Over any type of rows. Assumes nothing.
-use Prim.Native.Nat.{ℕ, _≤_, _<_}
+use Prim.Native.Nat.{ℕ}
 use native.Mathlib.Omega.{arith}
 use mathlib.Core.Path.{_≡_, refl, sym, _∙_}
 use mathlib.Core.Bool.{Bool, true, false, not}
@@ -13,7 +13,6 @@ use Rattle.laws.specs.declared.Found.{Found}
 use Rattle.laws.specs.declared.Found.the-variants.{At, Nothing}
 use Rattle.laws.proofs.KeyedLaws.{row-absent}
 use Rattle.laws.proofs.Lookups.{found-row, found-none, has-found}
-use Rattle.laws.proofs.Search.{Searching, hit, ended, full}
 use Rattle.rows.specs.Results.{under, looked}
 use Rattle.rows.specs.declared.LookedUp.{LookedUp}
 use Rattle.rows.specs.declared.LookedUp.the-variants as L
@@ -32,35 +31,6 @@ module _ {A : Type 0} (T : Keyed A) (k : T .Key) (n : ℕ) (rows : List A) (f : 
 
   pub the-row : (i : ℕ) (r d e : A) → f ≡ At i → r ≡ getD rows i e → r ≡ row T d k (take n rows)
   the-row i r d e h g = g ∙ sym (found-row T k d e rows n i (sym q ∙ h))
-
--- the same at the ways out of a search loop; x is the row that the code gives back, z the row that stands for none
-module _ {A : Type 0} (T : Keyed A) (k : T .Key) {d : A} {room n : ℕ} {l : List A} {i : ℕ} (s : Searching d (λ (y : A). T .eq (T .key y) k) room n l i) where
-  module _ (h : i < n) (r : i < room) (e : T .eq (T .key (getD l i d)) k ≡ true) where
-    pub hit-there : true ≡ has T k (take n l)
-    hit-there = is-there T k n l (At i) (hit s h r e) i refl
-
-    pub hit-row : (x z : A) → x ≡ getD l i d → x ≡ row T z k (take n l)
-    hit-row x z q = the-row T k n l (At i) (hit s h r e) i x z d refl q
-
-  -- the same where a function's answer b is the test
-  module _ (b : Bool) (h : i < n) (r : i < room) (e : b ≡ true) (q : b ≡ T .eq (T .key (getD l i d)) k) where
-    pub hit-there-by : true ≡ has T k (take n l)
-    hit-there-by = hit-there h r (sym q ∙ e)
-
-    pub hit-row-by : (x z : A) → x ≡ getD l i d → x ≡ row T z k (take n l)
-    hit-row-by x z g = hit-row h r (sym q ∙ e) x z g
-
-  pub ended-there : n ≤ i → false ≡ has T k (take n l)
-  ended-there h = not-there T k n l Nothing (ended s h) refl
-
-  pub ended-row : n ≤ i → (x z : A) → x ≡ z → x ≡ row T z k (take n l)
-  ended-row h x z q = no-row T k n l Nothing (ended s h) x z refl q
-
-  pub full-there : room ≤ i → false ≡ has T k (take n l)
-  full-there h = not-there T k n l Nothing (full s h) refl
-
-  pub full-row : room ≤ i → (x z : A) → x ≡ z → x ≡ row T z k (take n l)
-  full-row h x z q = no-row T k n l Nothing (full s h) x z refl q
 
 -- what `looked` gave tells whether the row is there
 pub looked-none : (b : Bool) (f : LookedUp) → f ≡ looked b → f ≡ L.Nothing → not b ≡ true

@@ -1,7 +1,6 @@
 // Tablets on lent tables: no table is copied.
 ghost use mathlib.Core.Path.{_≡_};
 ghost use mathlib.Core.Bool.{cond};
-ghost use lib.Dec.{leb};
 ghost use lib.ListN.{length};
 ghost use Rattle.laws.specs.Lists.{any, tally};
 ghost use Rattle.lent_rows.specs.Lent.{lentTablets};
@@ -109,14 +108,6 @@ fn judge_kind(tables: Tables, rows: &[TabletRow], count: usize, t: TabletDescrip
     }
 }
 
-// No row is left for another tablet, where all rows are lent.
-fn tablets_full(rows: &[TabletRow], count: usize) -> bool
-    requires { ⌜ length (now rows) ≡ tabletRoom ⌝ }
-    ensures { λ r. ⌜ r ≡ leb tabletRoom (length (viewTablets (lentTablets count (now (rows .entry))))) ⌝ }
-{
-    TABLET_ROOM <= count
-}
-
 // The checks of a tablet whose id is not known yet.
 fn judge_new_tablet(tables: Tables, rows: &[TabletRow], count: usize, t: TabletDescriptor) -> Answer
     requires { ⌜ length (now rows) ≡ tabletRoom ⌝ }
@@ -132,7 +123,8 @@ fn judge_new_tablet(tables: Tables, rows: &[TabletRow], count: usize, t: TabletD
     };
     let kind = judge_kind(tables, rows, count, t);
     if is_applied(kind) {
-        if tablets_full(rows, count) {
+        let full = TABLET_ROOM <= count;
+        if full {
             return Answer::TableFull(1, TABLET_ROOM as u64);
         }
         return Answer::Applied;

@@ -61,56 +61,24 @@ pub fn find_group(t: Tablets, group: RaftGroupId) -> Found
 pub fn lookup_tablet(t: Tablets, tablet: TabletId) -> TabletFound
     ensures { λ r. ⌜ (r .there ≡ has tabletKey (tablet .0) (viewTablets t)) × (r .row ≡ row tabletKey zeroTablet (tablet .0) (viewTablets t)) ⌝ }
 {
-    let rows = t.rows;
-    let count = t.count;
-    let mut i = 0;
-    while i < count {
-        if TABLET_ROOM <= i {
-            return TabletFound {
-                there: false,
-                row: zero_tablet(),
-            };
-        }
-        if rows[i].tablet_id.0 == tablet.0 {
-            return TabletFound {
-                there: true,
-                row: rows[i],
-            };
-        }
-        i += 1;
-    }
-    TabletFound {
-        there: false,
-        row: zero_tablet(),
-    }
+    let Found::At(i) = find_tablet(t, tablet) else {
+        let row = zero_tablet();
+        return TabletFound { there: false, row };
+    };
+    let row = tablet_at(t, i);
+    TabletFound { there: true, row }
 }
 
 // The row under this key.
 pub fn lookup_group(t: Tablets, id: RaftGroupId) -> TabletFound
     ensures { λ r. ⌜ (r .there ≡ has groupKey (id .0) (viewTablets t)) × (r .row ≡ row groupKey zeroTablet (id .0) (viewTablets t)) ⌝ }
 {
-    let rows = t.rows;
-    let count = t.count;
-    let mut i = 0;
-    while i < count {
-        if TABLET_ROOM <= i {
-            return TabletFound {
-                there: false,
-                row: zero_tablet(),
-            };
-        }
-        if rows[i].raft_group_id.0 == id.0 {
-            return TabletFound {
-                there: true,
-                row: rows[i],
-            };
-        }
-        i += 1;
-    }
-    TabletFound {
-        there: false,
-        row: zero_tablet(),
-    }
+    let Found::At(i) = find_group(t, id) else {
+        let row = zero_tablet();
+        return TabletFound { there: false, row };
+    };
+    let row = tablet_at(t, i);
+    TabletFound { there: true, row }
 }
 
 // Where the first row stands that is behind this one.

@@ -1,7 +1,7 @@
 -- `answers::judge` meets its contract. Assumes nothing.
 use borrow.Author.Needs.{needs}
-use Rattle.answers.proofs.Answering.{judged-naming, behind-first, judged-picking}
-use Rattle.answers.proofs.Fits.{room-1}
+use Rattle.answers.proofs.Answering.{judged-naming, judged-picking}
+use Rattle.reading.proofs.Sizes.{room-1, behind-first}
 use Rattle.answers.proofs.judge.Statement.{statement}
 use Rattle.answers.proofs.judge.Tie as tie
 

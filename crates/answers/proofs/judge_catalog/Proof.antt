@@ -1,7 +1,7 @@
 -- `answers::judge_catalog` meets its contract. Assumes nothing.
 use borrow.Author.Needs.{needs}
 use Rattle.answers.proofs.Answering.{judged-tablet, judged-placement, judged-retirement}
-use Rattle.answers.proofs.Fits.{room-4, room-5, room-last}
+use Rattle.reading.proofs.Sizes.{room-4, room-5, room-last}
 use Rattle.answers.proofs.judge_catalog.Statement.{statement}
 use Rattle.answers.proofs.judge_catalog.Tie as tie
 

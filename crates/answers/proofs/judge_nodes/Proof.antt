@@ -1,7 +1,7 @@
 -- `answers::judge_nodes` meets its contract. Assumes nothing.
 use borrow.Author.Needs.{needs}
 use Rattle.answers.proofs.Answering.{judged-registering, judged-lifecycle}
-use Rattle.answers.proofs.Fits.{room-2, room-third, last-third}
+use Rattle.reading.proofs.Sizes.{room-2, room-third, last-third}
 use Rattle.answers.proofs.judge_nodes.Statement.{statement}
 use Rattle.answers.proofs.judge_nodes.Tie as tie
 

@@ -1,6 +1,7 @@
 -- `copies::judge_replicas` meets its contract. Assumes nothing.
 use Prim.Native.Nat.{_-_}
 use lib.ListN.{take}
+use borrow.Author.Needs.{needs}
 use Rattle.metadata.specs.Tables.{desired}
 use Rattle.copies.proofs.Hosting.{Hosting, hosting, pass, refuse-here}
 use Rattle.copies.proofs.judge_replicas.Statement.{statement}
@@ -52,10 +53,16 @@ loop-less : tie.Need-loop-less Inv-loop μ-loop
 loop-less c = search hosting
 
 loop-again : tie.Need-loop-again Inv-loop μ-loop
-loop-again c = pass (c .before .before .before .before .before .before .before .before .before .loop .inv) (search hosting) (search hosting) (c .before .before .before .before .is-replica-retired .ensures) (c .before .before .judge-replica .ensures) (c .before .is-applied .ensures) (search hosting)
+loop-again c =
+    let judged = c .before .before in
+    let asked = judged .before .before in
+    pass (search needs) (search hosting) (search hosting) (asked .is-replica-retired .ensures) (judged .judge-replica .ensures) (c .before .is-applied .ensures) (search hosting)
 
 returns-2 : tie.Need-returns-2 Inv-loop μ-loop
-returns-2 c = refuse-here (c .before .before .before .before .before .before .before .before .before .loop .inv) (search hosting) (search hosting) (c .before .before .before .before .is-replica-retired .ensures) (c .before .before .judge-replica .ensures) (c .before .is-applied .ensures) (search hosting)
+returns-2 c =
+    let judged = c .before .before in
+    let asked = judged .before .before in
+    refuse-here (asked .before .before .before .before .before .loop .inv) (search hosting) (search hosting) (asked .is-replica-retired .ensures) (judged .judge-replica .ensures) (c .before .is-applied .ensures) (search hosting)
 
 returns-3 : tie.Need-returns-3 Inv-loop μ-loop
 returns-3 c = search hosting

@@ -1,7 +1,7 @@
 -- `dump::put_dump_line` meets its contract. Assumes nothing.
 use borrow.Author.Needs.{needs}
-use Rattle.dump.specs.Dump.{fromNodes, dumpLines}
-use Rattle.dump.proofs.Places.{behind-put}
+use Rattle.dump.specs.Dump.{dumpLines}
+use Rattle.dump.proofs.Places.{name-put, behind-put}
 use Rattle.dump.proofs.put_dump_line.Statement.{statement}
 use Rattle.dump.proofs.put_dump_line.Tie as tie
 
@@ -13,7 +13,7 @@ same-length c = search needs
 
 returns : tie.Need-returns
 unfolding dumpLines
-returns c = rw (c .before .before .before .before .before .if1 .taken) (c .before .before .put-cluster .ensures .0)
+returns c = search (needs, name-put)
 
 sub-put-from-nodes : tie.Need-sub-put-from-nodes
 sub-put-from-nodes c = search needs
@@ -26,7 +26,7 @@ same-length-2 c = search needs
 
 returns-2 : tie.Need-returns-2
 unfolding dumpLines
-returns-2 c = behind-put _ (fromNodes (c .before .before .before .before .before .before .args .s)) _ (c .before .before .before .before .if1 .left) (c .before .before .put-from-nodes .ensures)
+returns-2 c = search (needs, behind-put)
 
 pub put-dump-line-spec : {M : Type 1} → statement M
 put-dump-line-spec =

@@ -1,8 +1,6 @@
 -- `dump::put_from_nodes` meets its contract. Assumes nothing.
 use borrow.Author.Needs.{needs}
-use Rattle.metadata.specs.Tables.{zeroNode}
-use Rattle.row_lines.specs.RowLines.{nodeLine}
-use Rattle.dump.specs.Dump.{fromTables, fromNodes}
+use Rattle.dump.specs.Dump.{fromNodes}
 use Rattle.dump.proofs.Places.{row-put, later-put}
 use Rattle.dump.proofs.put_from_nodes.Statement.{statement}
 use Rattle.dump.proofs.put_from_nodes.Tie as tie
@@ -21,7 +19,7 @@ same-length c = search needs
 
 returns : tie.Need-returns
 unfolding fromNodes
-returns c = let a = c .before .before .before .before .before .before .before .before .before .before .args in row-put nodeLine (a .s .directory .nodes .rows) (a .s .directory .nodes .count) _ (a .k) (fromTables (a .s)) (c .before .before .before .before .before .before .nodes-used .ensures) zeroNode _ (c .before .before .before .before .before .if1 .taken) (c .before .before .before .node-at .ensures) (c .before .before .put-node .ensures .0)
+returns c = search (needs, row-put)
 
 put-from-tables-requires : tie.Need-put-from-tables-requires
 put-from-tables-requires c κs = search needs
@@ -31,7 +29,7 @@ same-length-2 c = search needs
 
 returns-2 : tie.Need-returns-2
 unfolding fromNodes
-returns-2 c = let a = c .before .before .before .before .before .before .before .before .before .args in later-put nodeLine (a .s .directory .nodes .rows) (a .s .directory .nodes .count) _ (a .k) (fromTables (a .s)) (c .before .before .before .before .before .nodes-used .ensures) (c .before .before .before .before .if1 .left) (c .before .before .put-from-tables .ensures)
+returns-2 c = search (needs, later-put)
 
 pub put-from-nodes-spec : {M : Type 1} → statement M
 put-from-nodes-spec =

@@ -1,8 +1,6 @@
 -- `dump::put_from_placements` meets its contract. Assumes nothing.
 use borrow.Author.Needs.{needs}
-use Rattle.metadata.specs.Tables.{zeroPlacement}
-use Rattle.placement_lines.specs.PlacementLines.{placementLine}
-use Rattle.dump.specs.Dump.{fromRetired, fromPlacements}
+use Rattle.dump.specs.Dump.{fromPlacements}
 use Rattle.dump.proofs.Places.{row-put, later-put}
 use Rattle.dump.proofs.put_from_placements.Statement.{statement}
 use Rattle.dump.proofs.put_from_placements.Tie as tie
@@ -21,7 +19,7 @@ same-length c = search needs
 
 returns : tie.Need-returns
 unfolding fromPlacements
-returns c = let a = c .before .before .before .before .before .before .before .before .before .before .args in row-put placementLine (a .s .catalog .placements .rows) (a .s .catalog .placements .count) _ (a .k) (fromRetired (a .s)) (c .before .before .before .before .before .before .placements-used .ensures) zeroPlacement _ (c .before .before .before .before .before .if1 .taken) (c .before .before .before .placement-at .ensures) (c .before .before .put-placement .ensures .0)
+returns c = search (needs, row-put)
 
 put-from-retired-requires : tie.Need-put-from-retired-requires
 put-from-retired-requires c κs = search needs
@@ -31,7 +29,7 @@ same-length-2 c = search needs
 
 returns-2 : tie.Need-returns-2
 unfolding fromPlacements
-returns-2 c = let a = c .before .before .before .before .before .before .before .before .before .args in later-put placementLine (a .s .catalog .placements .rows) (a .s .catalog .placements .count) _ (a .k) (fromRetired (a .s)) (c .before .before .before .before .before .placements-used .ensures) (c .before .before .before .before .if1 .left) (c .before .before .put-from-retired .ensures)
+returns-2 c = search (needs, later-put)
 
 pub put-from-placements-spec : {M : Type 1} → statement M
 put-from-placements-spec =

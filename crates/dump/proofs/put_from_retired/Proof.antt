@@ -1,8 +1,6 @@
 -- `dump::put_from_retired` meets its contract. Assumes nothing.
 use borrow.Author.Needs.{needs}
-use Rattle.metadata.specs.Tables.{zeroRetirement}
-use Rattle.row_lines.specs.RowLines.{retiredLine}
-use Rattle.dump.specs.Dump.{fromMarks, fromRetired}
+use Rattle.dump.specs.Dump.{fromRetired}
 use Rattle.dump.proofs.Places.{row-put, later-put}
 use Rattle.dump.proofs.put_from_retired.Statement.{statement}
 use Rattle.dump.proofs.put_from_retired.Tie as tie
@@ -21,7 +19,7 @@ same-length c = search needs
 
 returns : tie.Need-returns
 unfolding fromRetired
-returns c = let a = c .before .before .before .before .before .before .before .before .before .before .args in row-put retiredLine (a .s .catalog .retirements .rows) (a .s .catalog .retirements .count) _ (a .k) (fromMarks (a .s)) (c .before .before .before .before .before .before .retirements-used .ensures) zeroRetirement _ (c .before .before .before .before .before .if1 .taken) (c .before .before .before .retirement-at .ensures) (c .before .before .put-retired .ensures .0)
+returns c = search (needs, row-put)
 
 put-from-marks-requires : tie.Need-put-from-marks-requires
 put-from-marks-requires c κs = search needs
@@ -31,7 +29,7 @@ same-length-2 c = search needs
 
 returns-2 : tie.Need-returns-2
 unfolding fromRetired
-returns-2 c = let a = c .before .before .before .before .before .before .before .before .before .args in later-put retiredLine (a .s .catalog .retirements .rows) (a .s .catalog .retirements .count) _ (a .k) (fromMarks (a .s)) (c .before .before .before .before .before .retirements-used .ensures) (c .before .before .before .before .if1 .left) (c .before .before .put-from-marks .ensures)
+returns-2 c = search (needs, later-put)
 
 pub put-from-retired-spec : {M : Type 1} → statement M
 put-from-retired-spec =

@@ -1,8 +1,7 @@
 -- `dump::put_from_tables` meets its contract. Assumes nothing.
 use borrow.Author.Needs.{needs}
-use Rattle.metadata.specs.Tables.{zeroTable}
-use Rattle.dump.specs.Dump.{tableLineIn, fromTablets, fromTables}
-use Rattle.dump.proofs.Places.{row-put, later-put}
+use Rattle.dump.specs.Dump.{fromTables}
+use Rattle.dump.proofs.Places.{table-put, later-put}
 use Rattle.dump.proofs.put_from_tables.Statement.{statement}
 use Rattle.dump.proofs.put_from_tables.Tie as tie
 
@@ -23,7 +22,7 @@ same-length c = search needs
 
 returns : tie.Need-returns
 unfolding fromTables
-returns c = let a = c .before .before .before .before .before .before .before .before .before .before .before .args in row-put (tableLineIn (a .s)) (a .s .catalog .tables .rows) (a .s .catalog .tables .count) _ (a .k) (fromTablets (a .s)) (c .before .before .before .before .before .before .before .tables-used .ensures) zeroTable _ (c .before .before .before .before .before .before .if1 .taken) (c .before .before .before .before .before .table-at .ensures) (rw (c .before .before .before .before .is-complete .ensures) at (c .before .before .put-table .ensures .0))
+returns c = search (needs, table-put)
 
 put-from-tablets-requires : tie.Need-put-from-tablets-requires
 put-from-tablets-requires c κs = search needs
@@ -33,7 +32,7 @@ same-length-2 c = search needs
 
 returns-2 : tie.Need-returns-2
 unfolding fromTables
-returns-2 c = let a = c .before .before .before .before .before .before .before .before .before .args in later-put (tableLineIn (a .s)) (a .s .catalog .tables .rows) (a .s .catalog .tables .count) _ (a .k) (fromTablets (a .s)) (c .before .before .before .before .before .tables-used .ensures) (c .before .before .before .before .if1 .left) (c .before .before .put-from-tablets .ensures)
+returns-2 c = search (needs, later-put)
 
 pub put-from-tables-spec : {M : Type 1} → statement M
 put-from-tables-spec =

@@ -1,17 +1,20 @@
 -- `dump_output::dump_store` meets its contract. Assumes nothing.
-use Prim.Native.Nat.{_-_, _^_, _<_}
+use Prim.Native.Nat.{_-_, _≤_}
 use mathlib.Core.Path.{_≡_}
 use lib.ListN.{length}
 use borrow.Author.Needs.{needs}
-use Rattle.dump.specs.Dump.{lineRoom}
+use Rattle.dump.specs.Dump.{lineRoom, dumpLines}
 use Rattle.dump_output.proofs.dump_store.Statement.{statement}
 use Rattle.dump_output.proofs.dump_store.Tie as tie
 
 abbrev Inv-loop : tie.InvT-loop
-Inv-loop s line₀ k₀ line k = (length line ≡ lineRoom) × (k < 2 ^ 64)
+Inv-loop s count line₀ k₀ line k = (length line ≡ lineRoom) × ((k ≤ count) × (count ≡ length (dumpLines s)))
 
 abbrev μ-loop : tie.MeasureT-loop
-μ-loop s line₀ k₀ line k = 2 ^ 64 - k
+μ-loop s count line₀ k₀ line k = count - k
+
+line-count-requires : tie.Need-line-count-requires Inv-loop μ-loop
+line-count-requires c κs = search needs
 
 loop-holds : tie.Need-loop-holds Inv-loop μ-loop
 loop-holds c = search needs
@@ -21,9 +24,6 @@ slice-aggregate-put-dump-line c = search needs
 
 put-dump-line-requires : tie.Need-put-dump-line-requires Inv-loop μ-loop
 put-dump-line-requires c κs = search needs
-
-returns : tie.Need-returns Inv-loop μ-loop
-returns c = search needs
 
 slice-aggregate-emit : tie.Need-slice-aggregate-emit Inv-loop μ-loop
 slice-aggregate-emit c = search needs
@@ -40,8 +40,8 @@ loop-less c = search needs
 loop-again : tie.Need-loop-again Inv-loop μ-loop
 loop-again c = search needs
 
-returns-2 : tie.Need-returns-2 Inv-loop μ-loop
-returns-2 c = search needs
+returns : tie.Need-returns Inv-loop μ-loop
+returns c = search needs
 
 pub dump-store-spec : {M : Type 1} → statement M
 dump-store-spec =
@@ -49,13 +49,13 @@ dump-store-spec =
     (tie.spec
     Inv-loop
     μ-loop
+    line-count-requires
     loop-holds
     slice-aggregate-put-dump-line
     put-dump-line-requires
-    returns
     slice-aggregate-emit
     emit-requires
     add-k
     loop-less
     loop-again
-    returns-2)
+    returns)

@@ -1,12 +1,14 @@
 -- `feeding::feed_all` meets its contract. Assumes nothing.
+use Rattle.chunks.specs.Chunks.{Reached}
 use Rattle.feeding.specs.Feeding.{GoodFeed}
 use Rattle.feeding.proofs.Fed.{turns}
+use Rattle.held.specs.Stores.{lentStore}
 use Rattle.feeding.proofs.feed_all.Statement.{statement}
 use Rattle.feeding.proofs.feed_all.Tie as tie
 
 abbrev Inv-loop : tie.InvT-loop
 Inv-loop nodes₀ tablets₀ placements₀ retirements₀ f₀ turns₀ nodes tablets placements retirements f turns =
-    GoodFeed f nodes tablets placements retirements
+    GoodFeed f nodes tablets placements retirements × Reached (lentStore (f₀ .held) nodes₀ tablets₀ placements₀ retirements₀) (lentStore (f .held) nodes tablets placements retirements)
 
 abbrev μ-loop : tie.MeasureT-loop
 μ-loop nodes₀ tablets₀ placements₀ retirements₀ f₀ turns₀ nodes tablets placements retirements f turns =

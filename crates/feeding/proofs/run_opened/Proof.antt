@@ -1,7 +1,7 @@
 -- `feeding::run_opened` meets its contract. Assumes nothing.
 use borrow.Author.Needs.{needs}
-use Rattle.turns.proofs.Begun.{begins-sound, begins-whole}
-use Rattle.feeding.proofs.Fed.{left-sound}
+use Rattle.turns.proofs.Begun.{begins-sound, begins-whole, same}
+use Rattle.feeding.proofs.Fed.{left-sound, reached-read}
 use Rattle.feeding.proofs.run_opened.Statement.{statement}
 use Rattle.feeding.proofs.run_opened.Tie as tie
 
@@ -55,7 +55,12 @@ store-of-requires : tie.Need-store-of-requires
 store-of-requires c κs = search needs
 
 returns : tie.Need-returns
-returns c = search (needs, left-sound)
+returns c = (
+  search (needs, left-sound),
+  reached-read _ _ _ _
+      (same _ _ _ _ _ _ (c .before .before .before .before .before .before .before .before .before .before .before .before .before .before .no-rows .ensures) (c .before .before .before .before .before .before .before .before .before .before .before .before .before .before .before .before .before .before .no-nodes .ensures) (c .before .before .before .before .before .before .before .before .before .before .before .before .before .before .before .before .before .no-tablets .ensures) (c .before .before .before .before .before .before .before .before .before .before .before .before .before .before .before .before .no-placements .ensures) (c .before .before .before .before .before .before .before .before .before .before .before .before .before .before .before .no-retirements .ensures))
+      (c .store-of .ensures) (c .before .before .before .before .before .before .before .before .before .run-tape .ensures .2),
+)
 
 pub run-opened-spec : {M : Type 1} → statement M
 run-opened-spec =

@@ -1,5 +1,5 @@
 -- `feeding::turn` meets its contract. Assumes nothing.
-use Rattle.feeding.proofs.Fed.{fed-inside, fed-good, turning}
+use Rattle.feeding.proofs.Fed.{fed-inside, fed-reached, fed-good, turning}
 use Rattle.feeding.proofs.turn.Statement.{statement}
 use Rattle.feeding.proofs.turn.Tie as tie
 
@@ -37,8 +37,10 @@ same-length-4 : tie.Need-same-length-4
 same-length-4 c = search turning
 
 returns : tie.Need-returns
-returns c =
-    fed-good _ _ _ _ _ _ _ _ _ _ _ _ (c .before .before .before .before .before .before .before .before .before .run-chunk .ensures .0) (c .before .before .before .before .before .before .before .before .before .run-chunk .ensures .1) _ _ _ (c .before .before .before .before .before .before .before .before .before .before .before .before .before .before .before .before .before .pre .2 .1)
+returns c = (
+  fed-good _ _ _ _ _ _ _ _ _ _ _ _ (c .before .before .before .before .before .before .before .before .before .run-chunk .ensures .0) (c .before .before .before .before .before .before .before .before .before .run-chunk .ensures .1) _ _ _ (c .before .before .before .before .before .before .before .before .before .before .before .before .before .before .before .before .before .pre .2 .1),
+  fed-reached _ _ _ _ _ _ _ _ (c .before .before .before .before .before .before .before .before .before .run-chunk .ensures .0),
+)
 
 same-length-5 : tie.Need-same-length-5
 same-length-5 c = search turning
@@ -53,8 +55,10 @@ same-length-8 : tie.Need-same-length-8
 same-length-8 c = search turning
 
 returns-2 : tie.Need-returns-2
-returns-2 c =
-    fed-good _ _ _ _ _ _ _ _ _ _ _ _ (c .before .before .before .before .before .before .before .before .before .before .run-chunk .ensures .0) (c .before .before .before .before .before .before .before .before .before .before .run-chunk .ensures .1) _ _ _ (c .before .before .before .before .before .before .before .before .before .before .before .before .before .before .before .before .before .before .pre .2 .1)
+returns-2 c = (
+  fed-good _ _ _ _ _ _ _ _ _ _ _ _ (c .before .before .before .before .before .before .before .before .before .before .run-chunk .ensures .0) (c .before .before .before .before .before .before .before .before .before .before .run-chunk .ensures .1) _ _ _ (c .before .before .before .before .before .before .before .before .before .before .before .before .before .before .before .before .before .before .pre .2 .1),
+  fed-reached _ _ _ _ _ _ _ _ (c .before .before .before .before .before .before .before .before .before .before .run-chunk .ensures .0),
+)
 
 refill-requires : tie.Need-refill-requires
 refill-requires c κs =

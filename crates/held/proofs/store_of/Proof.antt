@@ -1,6 +1,6 @@
 -- `held::store_of` meets its contract. Assumes nothing.
 use borrow.Author.Needs.{needs}
-use Rattle.held.specs.Stores.{lentStore}
+use Rattle.held.proofs.Rows.{store-made}
 use Rattle.held.proofs.store_of.Statement.{statement}
 use Rattle.held.proofs.store_of.Tie as tie
 
@@ -17,8 +17,7 @@ retirements-of-requires : tie.Need-retirements-of-requires
 retirements-of-requires c κs = search needs
 
 returns : tie.Need-returns
-unfolding lentStore
-returns c = rw (c .retirements-of .ensures, c .before .placements-of .ensures, c .before .before .tablets-of .ensures, c .before .before .before .nodes-of .ensures)
+returns c = search (needs, store-made)
 
 pub store-of-spec : {M : Type 1} → statement M
 store-of-spec =

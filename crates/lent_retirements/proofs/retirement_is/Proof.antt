@@ -1,6 +1,6 @@
 -- `lent_retirements::retirement_is` meets its contract. Assumes nothing.
 use borrow.Author.Needs.{needs}
-use Rattle.laws.proofs.Pairs.{both-cond}
+use Rattle.lent_retirements.proofs.Keys.{has-key}
 use Rattle.lent_retirements.proofs.retirement_is.Statement.{statement}
 use Rattle.lent_retirements.proofs.retirement_is.Tie as tie
 
@@ -11,7 +11,7 @@ retirement-replica-requires : tie.Need-retirement-replica-requires
 retirement-replica-requires c κs = search needs
 
 returns : tie.Need-returns
-returns c = rw (← c .before .retirement-replica .ensures, ← c .before .before .before .retirement-group .ensures) (search (both-cond, needs))
+returns c = search (needs, has-key)
 
 pub retirement-is-spec : {M : Type 1} → statement M
 retirement-is-spec =

@@ -31,7 +31,7 @@ node-row-requires : tie.Need-node-row-requires Inv-loop μ-loop Inv-rows μ-rows
 node-row-requires c κs = search needs
 
 loop-holds : tie.Need-loop-holds Inv-loop μ-loop Inv-rows μ-rows
-loop-holds c = (fields-start _ _, c .before .before .before .rows .inv .1)
+loop-holds c = search (needs, fields-start)
 
 endpoint-requires : tie.Need-endpoint-requires Inv-loop μ-loop Inv-rows μ-rows
 endpoint-requires c κs = search needs

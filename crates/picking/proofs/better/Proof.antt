@@ -1,6 +1,6 @@
 -- `picking::better` meets its contract. Assumes nothing.
 use borrow.Author.Needs.{needs}
-use Rattle.metadata.specs.Labels.{better}
+use Rattle.picking.proofs.Choice.{better-gains}
 use Rattle.picking.proofs.better.Statement.{statement}
 use Rattle.picking.proofs.better.Tie as tie
 
@@ -11,8 +11,7 @@ locality-gain-requires-2 : tie.Need-locality-gain-requires-2
 locality-gain-requires-2 c κs = search needs
 
 returns : tie.Need-returns
-unfolding better
-returns c = rw (← c .before .before .before .locality-gain .ensures, ← c .before .before .locality-gain2 .ensures)
+returns c = search (needs, better-gains)
 
 pub better-spec : {M : Type 1} → statement M
 better-spec = tie.close (tie.spec locality-gain-requires locality-gain-requires-2 returns)

@@ -4,7 +4,7 @@ use Rattle.metadata.specs.Rooms.{tabletRoom}
 use Rattle.lent_rows.specs.Lent.{placementRow}
 use Rattle.changes.proofs.Placing.{no-tablet, stored-already, stands-so, stands-not}
 use Rattle.rows.proofs.Lookup.{looked-none, looked-row}
-use Rattle.placement_answers.proofs.Lent.{all-lent}
+use Rattle.lent_rows.proofs.Full.{all-lent}
 use Rattle.placement_answers.proofs.judge_placement.Statement.{statement}
 use Rattle.placement_answers.proofs.judge_placement.Tie as tie
 

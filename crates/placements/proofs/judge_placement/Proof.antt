@@ -1,6 +1,9 @@
 -- `placements::judge_placement` meets its contract. Assumes nothing.
+use mathlib.Core.Path.{_≡_}
+use lib.ListN.{length}
 use borrow.Author.Needs.{needs}
 use Rattle.laws.proofs.Rows.{length-mapped}
+use Rattle.metadata.specs.Rooms.{tabletRoom}
 use Rattle.rows.proofs.Lookup.{looked-none, looked-row}
 use Rattle.changes.proofs.Placing.{no-tablet, stored-already, stands-so, stands-not}
 use Rattle.placements.proofs.judge_placement.Statement.{statement}
@@ -42,8 +45,11 @@ is-applied-requires c κs = search needs
 judge-change-requires : tie.Need-judge-change-requires
 judge-change-requires c κs = search needs
 
+long : (s : tie.Start) → length (s .args .placements .rows) ≡ tabletRoom
+long s = search (length-mapped, needs)
+
 returns-3 : tie.Need-returns-3
-returns-3 c = search (length-mapped, stands-so, c .before .before .before .before .before .before .before .before .before .before .before .before .before .before .good .1 .1 .0, needs, looked-row)
+returns-3 c = search (long, stands-so, needs, looked-row)
 
 returns-4 : tie.Need-returns-4
 returns-4 c = search (needs, stands-not, looked-row)

@@ -1,36 +1,29 @@
 -- `reading::size_of` meets its contract. Assumes nothing.
-use borrow.Author.Tests.{eq-eqb, ne-eqb}
-use Rattle.reading.specs.Reader.{sizeOf}
+use borrow.Author.Needs.{needs}
+use Rattle.reading.proofs.Sizes.{size-1, size-2, size-3, size-4, size-5, size-6, size-none}
 use Rattle.reading.proofs.size_of.Statement.{statement}
 use Rattle.reading.proofs.size_of.Tie as tie
 
 returns : tie.Need-returns
-unfolding sizeOf
-returns c = rw (eq-eqb _ _ (c .if1 .taken))
+returns c = search (needs, size-1)
 
 returns-2 : tie.Need-returns-2
-unfolding sizeOf
-returns-2 c = rw (ne-eqb _ _ (c .before .if1 .left), eq-eqb _ _ (c .if2 .taken))
+returns-2 c = search (needs, size-2)
 
 returns-3 : tie.Need-returns-3
-unfolding sizeOf
-returns-3 c = rw (ne-eqb _ _ (c .before .before .if1 .left), ne-eqb _ _ (c .before .if2 .left), eq-eqb _ _ (c .if3 .taken))
+returns-3 c = search (needs, size-3)
 
 returns-4 : tie.Need-returns-4
-unfolding sizeOf
-returns-4 c = rw (ne-eqb _ _ (c .before .before .before .if1 .left), ne-eqb _ _ (c .before .before .if2 .left), ne-eqb _ _ (c .before .if3 .left), eq-eqb _ _ (c .if4 .taken))
+returns-4 c = search (needs, size-4)
 
 returns-5 : tie.Need-returns-5
-unfolding sizeOf
-returns-5 c = rw (ne-eqb _ _ (c .before .before .before .before .if1 .left), ne-eqb _ _ (c .before .before .before .if2 .left), ne-eqb _ _ (c .before .before .if3 .left), ne-eqb _ _ (c .before .if4 .left), eq-eqb _ _ (c .if5 .taken))
+returns-5 c = search (needs, size-5)
 
 returns-6 : tie.Need-returns-6
-unfolding sizeOf
-returns-6 c = rw (ne-eqb _ _ (c .before .before .before .before .before .if1 .left), ne-eqb _ _ (c .before .before .before .before .if2 .left), ne-eqb _ _ (c .before .before .before .if3 .left), ne-eqb _ _ (c .before .before .if4 .left), ne-eqb _ _ (c .before .if5 .left), eq-eqb _ _ (c .if6 .taken))
+returns-6 c = search (needs, size-6)
 
 returns-7 : tie.Need-returns-7
-unfolding sizeOf
-returns-7 c = rw (ne-eqb _ _ (c .before .before .before .before .before .if1 .left), ne-eqb _ _ (c .before .before .before .before .if2 .left), ne-eqb _ _ (c .before .before .before .if3 .left), ne-eqb _ _ (c .before .before .if4 .left), ne-eqb _ _ (c .before .if5 .left), ne-eqb _ _ (c .if6 .left))
+returns-7 c = search (needs, size-none)
 
 pub size-of-spec : {M : Type 1} → statement M
 size-of-spec =

@@ -1,78 +1,32 @@
 -- `retirement_rows::lookup_retirement` meets its contract. Assumes nothing.
-use Prim.Native.Nat.{_-_}
-use Rattle.rows.specs.Results.{under}
-use Rattle.metadata.specs.Tables.{retirementKey, zeroRetirement}
-use Rattle.metadata.specs.Rooms.{retirementRoom}
-use Rattle.rows.proofs.Lookup.{hit-there-by, hit-row-by, ended-there, ended-row, full-there, full-row}
-use Rattle.laws.proofs.Search.{Searching, searching}
+use borrow.Author.Needs.{needs}
+use Rattle.metadata.specs.Tables.{retirementKey}
+use Rattle.rows.proofs.Lookup.{not-there, no-row, is-there, the-row}
 use Rattle.retirement_rows.proofs.lookup_retirement.Statement.{statement}
 use Rattle.retirement_rows.proofs.lookup_retirement.Tie as tie
 
-abbrev Inv-loop : tie.InvT-loop
-Inv-loop group replica rows count i₀ i = Searching zeroRetirement (under retirementKey (group .0, replica .0)) retirementRoom count rows i
+find-retirement-requires : tie.Need-find-retirement-requires
+find-retirement-requires c κs = search needs
 
-abbrev μ-loop : tie.MeasureT-loop
-μ-loop group replica rows count i₀ i = count - i
+enum-known-i : tie.Need-enum-known-i
+enum-known-i c = search needs
 
-loop-holds : tie.Need-loop-holds Inv-loop μ-loop
-loop-holds c = search searching
+enum-told : tie.Need-enum-told
+enum-told c = search needs
 
-zero-retirement-requires : tie.Need-zero-retirement-requires Inv-loop μ-loop
-zero-retirement-requires c κs = search searching
+zero-retirement-requires : tie.Need-zero-retirement-requires
+zero-retirement-requires c κs = search needs
 
-returns : tie.Need-returns Inv-loop μ-loop
-returns c = search (searching, full-there retirementKey, full-row retirementKey)
+returns : tie.Need-returns
+returns c = search (needs, not-there retirementKey, no-row retirementKey)
 
-mul-has-ids : tie.Need-mul-has-ids Inv-loop μ-loop
-mul-has-ids c = search searching
+retirement-at-requires : tie.Need-retirement-at-requires
+retirement-at-requires c κs = search needs
 
-array-copy-out-has-ids : tie.Need-array-copy-out-has-ids Inv-loop μ-loop
-array-copy-out-has-ids c = search searching
-
-has-ids-requires : tie.Need-has-ids-requires Inv-loop μ-loop
-has-ids-requires c κs = search searching
-
-mul-t14 : tie.Need-mul-t14 Inv-loop μ-loop
-mul-t14 c = search searching
-
-array-copy-out-t17 : tie.Need-array-copy-out-t17 Inv-loop μ-loop
-array-copy-out-t17 c = search searching
-
-returns-2 : tie.Need-returns-2 Inv-loop μ-loop
-returns-2 c = search (searching, hit-there-by retirementKey, hit-row-by retirementKey)
-
-add-i : tie.Need-add-i Inv-loop μ-loop
-add-i c = search searching
-
-loop-less : tie.Need-loop-less Inv-loop μ-loop
-loop-less c = search searching
-
-loop-again : tie.Need-loop-again Inv-loop μ-loop
-loop-again c = search searching
-
-zero-retirement-requires-2 : tie.Need-zero-retirement-requires-2 Inv-loop μ-loop
-zero-retirement-requires-2 c κs = search searching
-
-returns-3 : tie.Need-returns-3 Inv-loop μ-loop
-returns-3 c = search (searching, ended-there retirementKey, ended-row retirementKey)
+returns-2 : tie.Need-returns-2
+returns-2 c = search (needs, is-there retirementKey, the-row retirementKey)
 
 pub lookup-retirement-spec : {M : Type 1} → statement M
 lookup-retirement-spec =
     tie.close
-    (tie.spec
-    Inv-loop
-    μ-loop
-    loop-holds
-    zero-retirement-requires
-    returns
-    mul-has-ids
-    array-copy-out-has-ids
-    has-ids-requires
-    mul-t14
-    array-copy-out-t17
-    returns-2
-    add-i
-    loop-less
-    loop-again
-    zero-retirement-requires-2
-    returns-3)
+    (tie.spec find-retirement-requires enum-known-i enum-told zero-retirement-requires returns retirement-at-requires returns-2)

@@ -1,5 +1,8 @@
 -- `tablet_answers::judge_new_tablet` meets its contract. Assumes nothing.
 use borrow.Author.Needs.{needs}
+use Rattle.lent_rows.proofs.Full.{lent-full}
+use Rattle.lent_rows.specs.Lent.{tabletRow}
+use Rattle.metadata.specs.Rooms.{tabletRoom}
 use Rattle.tablet_checks.proofs.TabletLaws.{group-taken, table-unknown, no-row-left, tablet-new, kind-refused}
 use Rattle.tablet_answers.proofs.judge_new_tablet.Statement.{statement}
 use Rattle.tablet_answers.proofs.judge_new_tablet.Tie as tie
@@ -34,14 +37,11 @@ judge-kind-requires c κs = search needs
 is-applied-requires : tie.Need-is-applied-requires
 is-applied-requires c κs = search needs
 
-tablets-full-requires : tie.Need-tablets-full-requires
-tablets-full-requires c κs = search needs
-
 returns-3 : tie.Need-returns-3
-returns-3 c = search (needs, no-row-left)
+returns-3 c = search (needs, lent-full tabletRow tabletRoom, no-row-left)
 
 returns-4 : tie.Need-returns-4
-returns-4 c = search (needs, tablet-new)
+returns-4 c = search (needs, lent-full tabletRow tabletRoom, tablet-new)
 
 returns-5 : tie.Need-returns-5
 returns-5 c = search (needs, kind-refused)
@@ -60,7 +60,6 @@ judge-new-tablet-spec =
     returns-2
     judge-kind-requires
     is-applied-requires
-    tablets-full-requires
     returns-3
     returns-4
     returns-5)

@@ -1,7 +1,6 @@
 -- `zeros::is_zero_node` meets its contract. Assumes nothing.
 use borrow.Author.Needs.{needs}
-use Rattle.laws.specs.Tests.{allOf}
-use Rattle.metadata.specs.Tables.{isZeroNode}
+use Rattle.zeros.proofs.ZeroNode.{zero-fields}
 use Rattle.zeros.proofs.is_zero_node.Statement.{statement}
 use Rattle.zeros.proofs.is_zero_node.Tie as tie
 
@@ -30,20 +29,7 @@ is-zero-label-requires : tie.Need-is-zero-label-requires
 is-zero-label-requires c κs = search needs
 
 returns : tie.Need-returns
-unfolding isZeroNode allOf
-returns c =
-    let l = c .before .before .before in
-    let n = l .before .before in
-    rw (
-      c .before .is-zero-label .ensures,
-      c .before .before .is-no-label3 .ensures,
-      l .is-no-label2 .ensures,
-      l .before .is-no-label .ensures,
-      n .is-zero-name4 .ensures,
-      n .before .is-zero-name3 .ensures,
-      n .before .before .is-zero-name2 .ensures,
-      n .before .before .before .is-zero-name .ensures,
-    )
+returns c = search (needs, zero-fields)
 
 pub is-zero-node-spec : {M : Type 1} → statement M
 is-zero-node-spec =
