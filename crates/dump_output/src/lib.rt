@@ -6,7 +6,7 @@ use dump::LINE_ROOM;
 use metadata::Store;
 use printing::emit;
 
-// The final tables and marks; how many lines were handed on.
+// The final tables and marks; how many lines they have.
 pub fn dump_store(s: Store) -> usize
     ensures { λ r. ⌜ r ≡ length (dumpLines s) ⌝ }
 {
