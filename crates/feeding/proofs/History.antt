@@ -1,4 +1,4 @@
--- Demand 3 of the program: the store that its run leaves is what the history says of the commands that were run. Assumes nothing.
+-- Demand 3 of the program: the store that its run leaves is what the history says of commands that lead to it. Assumes nothing.
 use Prim.Native.Nat.{ℕ}
 use mathlib.Core.Path.{_≡_, sym, subst}
 use mathlib.Core.Bool.{true}

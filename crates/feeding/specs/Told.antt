@@ -1,4 +1,4 @@
--- Demand 3 of the program: what the history says of the commands that it ran. Assumes nothing.
+-- Demand 3 of the program: what the history says of commands that lead to the store that its run leaves. Assumes nothing.
 use Prim.Native.Nat.{ℕ}
 use mathlib.Core.List.{List}
 use Rattle.metadata.specs.Claims.{Claims}
