@@ -79,15 +79,22 @@ def spelled(name, names):
 
 def table(root):
     own, specs = declared(root)
+    crates = set(os.listdir(os.path.join(root, "crates")))
+    for p in files(root, ".antt"):
+        # a name that some file has from the library keeps its spelling
+        for m in re.finditer(r"use ([^\s{};]+)\.\{([^}]*)\}", read(p)):
+            if not (m[1].startswith("Rattle.") and m[1].split(".")[1] in crates):
+                own -= {w.strip() for w in m[2].split(",")}
     names = specs | LIBRARY
     new = {n: spelled(n, names) for n in own}
     falls = collections.defaultdict(list)
     for n, t in new.items():
         falls[t].append(n)
     for t, olds in falls.items():
-        for n in sorted(olds):
-            if len(olds) > 1 and "-" in n:
-                new[n] = t + "_lem"
+        # of two that fall together the definition has the name
+        olds.sort(key=lambda n: (snake(n) == n, "-" in n, n not in specs, n))
+        for n in olds[1:]:
+            new[n] = t + "_lem"
     # the names that are used beside them: imports, parameters, fields
     used = set()
     for p in files(root, ".antt", ".rt"):

@@ -14,7 +14,7 @@ use reports::is_applied;
 use rows::PlacementFound;
 
 // What the stored placement has under a replica's number.
-#[derive(Drop)]
+#[derive(Clone, Copy)]
 pub enum Kept {
     Was(DesiredReplica),
     New,

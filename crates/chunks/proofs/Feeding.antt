@@ -1,5 +1,5 @@
 -- A chunk of the tape, command by command. Assumes nothing.
-use Rattle.std.proofs.Common.{◌≡◌, ℕ, ◌+◌, ◌-◌, ◌%◌, ◌^◌, ◌<◌, ◌≤◌, Bool, true, false, List, [], ◌∷◌, ◌++◌, length, sym, refl, ap, ◌∙◌, subst, ap₂, append_assoc, append_nil, arith, rules}
+use Rattle.std.proofs.Common.{◌≡◌, ℕ, ◌+◌, ◌-◌, ◌%◌, ◌^◌, ◌<◌, ◌≤◌, Bool, true, false, List, [], ◌∷◌, ◌++◌, length, sym, refl, ap, ◌∙◌, subst, ap₂, append_assoc, append-nil, arith, rules}
 use Rattle.laws.proofs.ListLaws.{never}
 use Rattle.lines.specs.Lines.{line_text, Appended}
 use Rattle.lines.proofs.Texts.{joined}
@@ -27,7 +27,7 @@ use Rattle.chunks.specs.Chunks.{line_room, next_line, lines_text, line_behind, F
 
 lines_more : (n : ℕ) (l : List Answer) (a : Answer) → lines_text n l ++ line_text (line_behind n l) (reported a) ≡ lines_text n (l ++ a ∷ [])
 unfolding lines_text line_behind
-lines_more n [] a = sym (append_nil (line_text n (reported a)))
+lines_more n [] a = sym (append-nil (line_text n (reported a)))
 lines_more n (x ∷ l) a =
     append_assoc (line_text n (reported x)) (lines_text (next_line n) l) (line_text (line_behind (next_line n) l) (reported a))
     ∙ ap (λ (t : List ℕ). line_text n (reported x) ++ t) (lines_more (next_line n) l a)
@@ -198,7 +198,7 @@ module _ (l : List ℕ) (s₀ : Store) (from first : ℕ) (old : List ℕ) (h : 
           ran = k.ran;
           first_ones = k.first_ones;
           done = k.done ++ A.BadTape 1 b ∷ [];
-          split = k.split ∙ ap (λ (y : Reading). k.done ++ tape_answers (lent_store h ns ts ps rs) y) w ∙ sym (append_nil (k.done ++ A.BadTape 1 b ∷ []));
+          split = k.split ∙ ap (λ (y : Reading). k.done ++ tape_answers (lent_store h ns ts ps rs) y) w ∙ sym (append-nil (k.done ++ A.BadTape 1 b ∷ []));
           store = k.store;
           text = line_more l s₀ from first old (lent_store h ns ts ps rs) at line used out k (A.BadTape 1 b) r new n p a;
           line = λ e. absurd (never true refl e);

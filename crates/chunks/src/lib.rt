@@ -15,7 +15,7 @@ use turns::take_turn;
 pub const LINE_ROOM: usize = 105;
 
 // How far a chunk was run: what is held beside the lent rows, the place of the next command, its line, and the bytes of output; whether the tape stops there, or the output is full.
-#[derive(Drop)]
+#[derive(Clone, Copy)]
 pub struct Chunk {
     pub held: Held,
     pub at: usize,

@@ -1,3 +1,5 @@
+#![tactic(auto)]
+
 // The endpoints of a new node against those of each node that is there (document 01, refusal 14).
 ghost use Rattle.std.specs.Prelude.{◌≡◌, get_or};
 ghost use Rattle.metadata.specs.Tables.{endpoints};

@@ -1,3 +1,5 @@
+#![tactic(auto)]
+
 // Where each copy and each preferred leader of a tablet may stand, by the row of its node (document 01, refusals 17 and 26 to 28).
 ghost use Rattle.std.specs.Prelude.{◌≡◌, List, map, take};
 ghost use Rattle.metadata.specs.Answers.{each};

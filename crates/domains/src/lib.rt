@@ -1,3 +1,5 @@
+#![tactic(auto)]
+
 // Failure domains: 0 regions, 1 zones, 2 racks (document 01, refusal 29).
 ghost use Rattle.std.specs.Prelude.{◌≡◌, List, map, take};
 ghost use Rattle.metadata.specs.Labels.{distinct};

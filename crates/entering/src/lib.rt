@@ -1,3 +1,5 @@
+#![tactic(auto)]
+
 // A node that enters, by the first clash of its endpoints; and one that is known, against its row.
 ghost use Rattle.std.specs.Prelude.{◌≡◌};
 ghost use Rattle.entering.specs.Steps.{judge_free_node, judge_known_row};

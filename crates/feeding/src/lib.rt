@@ -12,9 +12,10 @@ use input::{BUFFER_SIZE, Filled, refill};
 use lent_rows::{NodeRow, PlacementRow, RetirementRow, TabletRow};
 use metadata::Store;
 use printing::emit;
+use std::rt::{Stdin, Stdout};
 
 // Where the run stands: what is held beside the lent rows, the place of the next command and its line, and whether all is done.
-#[derive(Drop)]
+#[derive(Clone, Copy)]
 pub struct Feed {
     pub held: Held,
     pub line: u64,
@@ -24,6 +25,8 @@ pub struct Feed {
 
 // The commands at hand are run and their lines written.
 fn turn(
+    input: Stdin,
+    to: Stdout,
     held: Held,
     nodes: &mut [NodeRow],
     tablets: &mut [TabletRow],
@@ -37,7 +40,7 @@ fn turn(
     requires { (sound (lent_store held nodes.old tablets.old placements.old retirements.old) ≡ true) × Whole nodes.old tablets.old placements.old retirements.old × ((from ≤ have) × (have ≤ buffer_size)) }
     ensures { GoodFeed result nodes.new tablets.new placements.new retirements.new × Reached (lent_store held nodes.old tablets.old placements.old retirements.old) (lent_store result.held nodes.new tablets.new placements.new retirements.new) }
 {
-    let mut out = io::large_buffer();
+    let mut out = [0u8; BUFFER_SIZE];
     let c = run_chunk(
         held,
         nodes,
@@ -49,7 +52,7 @@ fn turn(
         first,
         &mut out,
     );
-    emit(&out, c.used);
+    emit(to, &out, c.used);
     let left = c.held;
     let line = c.line;
     let at = c.at;
@@ -77,7 +80,7 @@ fn turn(
             },
         };
     }
-    let filled = refill(buf, at, have, line);
+    let filled = refill(input, to, buf, at, have, line);
     Feed {
         held: left,
         line,
@@ -88,6 +91,8 @@ fn turn(
 
 // A proved loop has to end, and nothing says that an input does: the loop counts its turns down from a number that no run uses up.
 fn feed_all(
+    input: Stdin,
+    to: Stdout,
     start: Feed,
     nodes: &mut [NodeRow],
     tablets: &mut [TabletRow],
@@ -106,6 +111,8 @@ fn feed_all(
         }
         let buf = filled.buf;
         f = turn(
+            input,
+            to,
             f.held,
             nodes,
             tablets,
@@ -123,6 +130,8 @@ fn feed_all(
 
 // The commands behind an accepted opening.
 fn run_tape(
+    input: Stdin,
+    to: Stdout,
     held: Held,
     nodes: &mut [NodeRow],
     tablets: &mut [TabletRow],
@@ -139,6 +148,8 @@ fn run_tape(
         return held;
     }
     feed_all(
+        input,
+        to,
         Feed {
             held,
             line: 1,
@@ -157,7 +168,7 @@ fn run_tape(
 }
 
 // The same from the opened store, whose four large tables have no rows; the store that is left.
-pub fn run_opened(store: Store, buf: [u8; BUFFER_SIZE], have: usize) -> Store
+pub fn run_opened(input: Stdin, to: Stdout, store: Store, buf: [u8; BUFFER_SIZE], have: usize) -> Store
     requires { (sound store ≡ true) × Empty store × (have ≤ buffer_size) }
     ensures { (sound result ≡ true) × Reached store result }
 {
@@ -167,6 +178,8 @@ pub fn run_opened(store: Store, buf: [u8; BUFFER_SIZE], have: usize) -> Store
     let mut retirements = no_retirements();
     let held = no_rows(store);
     let last = run_tape(
+        input,
+        to,
         held,
         &mut nodes,
         &mut tablets,

@@ -1,3 +1,5 @@
+#![tactic(auto)]
+
 // The tests of `text` by type: names, labels, keys, and what may be absent.
 ghost use Rattle.std.specs.Prelude.{◌≡◌};
 ghost use Rattle.metadata.specs.Rooms.{label_width};

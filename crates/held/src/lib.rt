@@ -1,3 +1,5 @@
+#![tactic(auto)]
+
 // What a tape's run holds: the four large tables as lent rows, and the rest by value.
 ghost use Rattle.std.specs.Prelude.{◌≡◌, map, length, replicate};
 ghost use Rattle.held.specs.Stores.{lent_store, Whole, Empty, Opens};
@@ -16,7 +18,7 @@ use metadata::{
 use zeros::{zero_node, zero_placement, zero_retirement, zero_tablet};
 
 // The name, the tables and the marks, and how many rows of each lent table are in use.
-#[derive(Drop)]
+#[derive(Clone, Copy)]
 pub struct Held {
     pub cluster_id: OptionalName,
     pub tables: Tables,

@@ -1,3 +1,5 @@
+#![tactic(auto)]
+
 // The nodes as a tape's run holds them: a row is found by its id, and takes its place where the rows stand.
 ghost use Rattle.std.specs.Prelude.{◌≡◌, map, ◌≤◌, ◌<◌, ltb, length, get_or};
 ghost use Rattle.laws.specs.Keyed.{has, row};

@@ -1,3 +1,5 @@
+#![tactic(auto)]
+
 // The retirements as a tape's run holds them: a row is found by its group and replica, and takes its place where the rows stand.
 ghost use Rattle.std.specs.Prelude.{◌≡◌, map, ◌≤◌, ◌<◌, length, get_or};
 ghost use Rattle.laws.specs.Keyed.{before, has, row};

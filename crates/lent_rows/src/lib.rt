@@ -1,3 +1,5 @@
+#![tactic(auto)]
+
 // The tables as a tape's run holds them: a row is the bytes that its command brought. They are lent, read and changed where they stand, so that no command copies a table.
 ghost use Rattle.std.specs.Prelude.{◌≡◌, map, ◌+◌, ◌≤◌, ◌<◌, length, get_or, set};
 ghost use Rattle.decode.specs.Decode.{field_at, node_at, tablet_at, placement_at, retirement_at};

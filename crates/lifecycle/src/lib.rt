@@ -1,3 +1,5 @@
+#![tactic(auto)]
+
 // Lifecycle: a node moves one step forward at a time, and leaves only when no tablet expects it.
 ghost use Rattle.std.specs.Prelude.{◌≡◌, true, cond, get_or};
 ghost use Rattle.laws.specs.Keyed.{has};
@@ -25,7 +27,7 @@ use reports::is_applied;
 use rows::{find_id, place};
 
 // An answer, with the nodes after it.
-#[derive(Drop)]
+#[derive(Clone, Copy)]
 pub struct NodesAnswered {
     pub answer: Answer,
     pub nodes: Nodes,

@@ -1,3 +1,5 @@
+#![tactic(auto)]
+
 // Reason 12 of the marks: no id lies above its mark.
 ghost use Rattle.std.specs.Prelude.{◌≡◌, take};
 ghost use Rattle.laws.specs.Lists.{every};

@@ -1,3 +1,5 @@
+#![tactic(auto)]
+
 ghost use Rattle.std.specs.Prelude.{◌≡◌};
 ghost use Rattle.metadata.specs.Marks.{initial_marks, next_replica_id};
 
@@ -21,55 +23,55 @@ pub const KEY_WIDTH: usize = 32;
 // select_initial_placement takes at most this many nodes.
 pub const INITIAL_REPLICATION_FACTOR: usize = 3;
 
-#[derive(Drop)]
+#[derive(Clone, Copy)]
 pub struct NodeId(pub u64);
 
-#[derive(Drop)]
+#[derive(Clone, Copy)]
 pub struct ReplicaId(pub u64);
 
-#[derive(Drop)]
+#[derive(Clone, Copy)]
 pub struct TabletId(pub u64);
 
-#[derive(Drop)]
+#[derive(Clone, Copy)]
 pub struct RaftGroupId(pub u64);
 
-#[derive(Drop)]
+#[derive(Clone, Copy)]
 pub struct TableId(pub u64);
 
 // A text is its first len bytes; the rest of the field is padding.
-#[derive(Drop)]
+#[derive(Clone, Copy)]
 pub struct Name {
     pub len: u8,
     pub bytes: [u8; NAME_WIDTH],
 }
 
-#[derive(Drop)]
+#[derive(Clone, Copy)]
 pub struct Label {
     pub len: u8,
     pub bytes: [u8; LABEL_WIDTH],
 }
 
 // A key; no bytes mean unbounded.
-#[derive(Drop)]
+#[derive(Clone, Copy)]
 pub struct Key {
     pub len: u8,
     pub bytes: [u8; KEY_WIDTH],
 }
 
 // A name or a label that may be absent: the flag stands beside the text.
-#[derive(Drop)]
+#[derive(Clone, Copy)]
 pub struct OptionalName {
     pub present: bool,
     pub text: Name,
 }
 
-#[derive(Drop)]
+#[derive(Clone, Copy)]
 pub struct OptionalLabel {
     pub present: bool,
     pub text: Label,
 }
 
-#[derive(Drop)]
+#[derive(Clone, Copy)]
 pub struct NodeDescriptor {
     pub node_id: NodeId,
     pub raft_addr: Name,
@@ -85,7 +87,7 @@ pub struct NodeDescriptor {
 }
 
 // The kind stands beside both kinds' operands: 0 Hash, 1 Range; those of the other kind are zero.
-#[derive(Drop)]
+#[derive(Clone, Copy)]
 pub struct PartitionSpec {
     pub kind: u8,
     pub bucket: u32,
@@ -94,7 +96,7 @@ pub struct PartitionSpec {
     pub end_key: Key,
 }
 
-#[derive(Drop)]
+#[derive(Clone, Copy)]
 pub struct TabletDescriptor {
     pub tablet_id: TabletId,
     pub table_id: TableId,
@@ -103,7 +105,7 @@ pub struct TabletDescriptor {
     pub partition: PartitionSpec,
 }
 
-#[derive(Drop)]
+#[derive(Clone, Copy)]
 pub struct DesiredReplica {
     pub replica_id: ReplicaId,
     pub node_id: NodeId,
@@ -111,7 +113,7 @@ pub struct DesiredReplica {
     pub role: u8,
 }
 
-#[derive(Drop)]
+#[derive(Clone, Copy)]
 pub struct PlacementPolicy {
     pub replication_factor: u32,
     pub min_distinct_regions: u32,
@@ -122,7 +124,7 @@ pub struct PlacementPolicy {
     pub preferred_leader_nodes: [NodeId; REPLICA_ROOM],
 }
 
-#[derive(Drop)]
+#[derive(Clone, Copy)]
 pub struct DesiredReplicaPlacement {
     pub tablet_id: TabletId,
     pub configuration_epoch: u64,
@@ -131,7 +133,7 @@ pub struct DesiredReplicaPlacement {
     pub placement_policy: PlacementPolicy,
 }
 
-#[derive(Drop)]
+#[derive(Clone, Copy)]
 pub struct RetiredReplicaLifetime {
     pub raft_group_id: RaftGroupId,
     pub replica_id: ReplicaId,
@@ -141,14 +143,14 @@ pub struct RetiredReplicaLifetime {
     pub removal_term: u64,
 }
 
-#[derive(Drop)]
+#[derive(Clone, Copy)]
 pub struct TableRow {
     pub table_id: TableId,
     pub tablet_count: u32,
 }
 
 // The marks: the largest id of each kind seen so far.
-#[derive(Drop)]
+#[derive(Clone, Copy)]
 pub struct MetadataAllocatorState {
     pub max_table_id: u64,
     pub max_tablet_id: u64,
@@ -189,52 +191,52 @@ impl MetadataAllocatorState {
 }
 
 // The next replica id, or none at the limit.
-#[derive(Drop)]
+#[derive(Clone, Copy)]
 pub enum NextReplicaId {
     Next(ReplicaId),
     Exhausted,
 }
 
 // One table for each kind of row: the first count rows, rising by id; the rest are zero rows.
-#[derive(Drop)]
+#[derive(Clone, Copy)]
 pub struct Nodes {
     pub count: usize,
     pub rows: [NodeDescriptor; NODE_ROOM],
 }
 
-#[derive(Drop)]
+#[derive(Clone, Copy)]
 pub struct Tables {
     pub count: usize,
     pub rows: [TableRow; TABLE_ROOM],
 }
 
-#[derive(Drop)]
+#[derive(Clone, Copy)]
 pub struct Tablets {
     pub count: usize,
     pub rows: [TabletDescriptor; TABLET_ROOM],
 }
 
-#[derive(Drop)]
+#[derive(Clone, Copy)]
 pub struct Placements {
     pub count: usize,
     pub rows: [DesiredReplicaPlacement; TABLET_ROOM],
 }
 
-#[derive(Drop)]
+#[derive(Clone, Copy)]
 pub struct Retirements {
     pub count: usize,
     pub rows: [RetiredReplicaLifetime; RETIREMENT_ROOM],
 }
 
 // The cluster's name and its machines.
-#[derive(Drop)]
+#[derive(Clone, Copy)]
 pub struct Directory {
     pub cluster_id: OptionalName,
     pub nodes: Nodes,
 }
 
 // What the machines hold.
-#[derive(Drop)]
+#[derive(Clone, Copy)]
 pub struct Catalog {
     pub tables: Tables,
     pub tablets: Tablets,
@@ -243,14 +245,14 @@ pub struct Catalog {
     pub marks: MetadataAllocatorState,
 }
 
-#[derive(Drop)]
+#[derive(Clone, Copy)]
 pub struct Store {
     pub directory: Directory,
     pub catalog: Catalog,
 }
 
 // Document 01's answers and refusals, from 0 on; specs/Answers.antt gives each its number and operands.
-#[derive(Drop)]
+#[derive(Clone, Copy)]
 pub enum Answer {
     Applied,
     AlreadyApplied,
@@ -289,21 +291,21 @@ pub enum Answer {
 }
 
 // An answer as document 01 prints it.
-#[derive(Drop)]
+#[derive(Clone, Copy)]
 pub struct Reported {
     pub number: u8,
     pub operands: [u64; 3],
 }
 
 // What an entry point returns.
-#[derive(Drop)]
+#[derive(Clone, Copy)]
 pub struct Answered {
     pub answer: Answer,
     pub store: Store,
 }
 
 // The first choice: the nodes in order of choice, zero where a place is not filled, and their policy.
-#[derive(Drop)]
+#[derive(Clone, Copy)]
 pub struct InitialPlacement {
     pub node_count: u8,
     pub nodes: [NodeId; INITIAL_REPLICATION_FACTOR],
@@ -311,7 +313,7 @@ pub struct InitialPlacement {
 }
 
 // The clash search: the existing node, the new node's field and the existing node's field.
-#[derive(Drop)]
+#[derive(Clone, Copy)]
 pub enum Clash {
     At(NodeId, u8, u8),
     Nothing,

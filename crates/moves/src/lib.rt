@@ -1,3 +1,5 @@
+#![tactic(auto)]
+
 // A move of one node, by its row: one step forward at a time; and the copies of one placement that are expected on it.
 ghost use Rattle.std.specs.Prelude.{◌≡◌};
 ghost use Rattle.metadata.specs.Answers.{each};

@@ -1,3 +1,5 @@
+#![tactic(auto)]
+
 // Naming: the cluster has one name, given once.
 ghost use Rattle.std.specs.Prelude.{◌≡◌, true, cond};
 ghost use Rattle.metadata.specs.Answers.{is_applied};
@@ -10,7 +12,7 @@ use metadata::{Answer, Name, OptionalName};
 use reports::is_applied;
 
 // An answer, with the cluster's name after it.
-#[derive(Drop)]
+#[derive(Clone, Copy)]
 pub struct NameAnswered {
     pub answer: Answer,
     pub cluster_id: OptionalName,

@@ -1,3 +1,5 @@
+#![tactic(auto)]
+
 // The first choice: up to three Active nodes, each time the one that adds most labels.
 ghost use Rattle.std.specs.Prelude.{◌≡◌, false, [], ◌∷◌, ◌++◌, ◌+◌, ◌<◌, eqb};
 ghost use Rattle.std.proofs.Math.Option.{none};
@@ -16,7 +18,7 @@ use metadata::{
 use zeros::{no_label, zero_node};
 
 // The best node so far, if there is one.
-#[derive(Drop)]
+#[derive(Clone, Copy)]
 pub struct Best {
     pub found: bool,
     pub node: NodeDescriptor,

@@ -1,3 +1,5 @@
+#![tactic(auto)]
+
 // The placements: rows that rise by their tablet's id.
 ghost use Rattle.std.specs.Prelude.{◌≡◌, map, ◌≤◌, ◌<◌, take, get_or};
 ghost use Rattle.laws.specs.Keyed.{before, has, row};

@@ -2,47 +2,43 @@
 // more than a buffer of the tape. With --dump it prints the final tables and marks behind the last line.
 use dump_output::dump_store;
 use feeding::run_opened;
-use libc::{STDERR_FILENO, STDIN_FILENO};
+use input::{BUFFER_SIZE, read_full};
 use printing::print_line;
 use reports::is_applied;
+use std::io::{Eprint, Print};
+use std::{env, io};
 
 // 0: no argument; 1: --dump; 2: anything else.
-fn mode() -> u8 {
-    let count = os::arg_count();
-    if count <= 1 {
-        return 0;
+fn mode(rt: &HostRuntime) -> io::Result<u8> {
+    let mut words = env::args(rt)?;
+    match (words.next(), words.next(), words.next()) {
+        (_, None, _) => Ok(0),
+        (_, Some(word), None) => Ok(if word == "--dump" { 1 } else { 2 }),
+        (_, Some(_), Some(_)) => Ok(2),
     }
-    if count > 2 {
-        return 2;
-    }
-    let mut word = io::buffer();
-    let n = os::arg(1, &mut word);
-    if check::same(&word[..n], b"--dump") {
-        return 1;
-    }
-    2
 }
 
-fn main() {
-    let how = mode();
+fn main(rt: HostRuntime) -> io::Result<()> {
+    let how = mode(&rt)?;
     if how == 2 {
-        io::write_all(
-            STDERR_FILENO,
-            b"placement_tape: accepted: no argument, or --dump\n",
-        );
-        return;
+        return rt
+            .stderr()
+            .write_all(b"placement_tape: accepted: no argument, or --dump\n");
     }
-    let mut buf = io::large_buffer();
-    let have = io::read_full(STDIN_FILENO, &mut buf);
+    let input = rt.stdin();
+    let out = rt.stdout();
+    let mut buf = [0u8; BUFFER_SIZE];
+    let have = read_full(input, &mut buf);
     let first = reading::open_tape(&buf[..have]);
     let answer = first.answer;
     let mut store = first.store;
     if is_applied(answer) {
-        store = run_opened(store, buf, have);
+        store = run_opened(input, out, store, buf, have);
     } else {
-        print_line(0, answer);
+        print_line(out, 0, answer);
     }
     if how == 1 {
-        dump_store(store);
+        dump_store(out, store);
     }
+    Ok(())
 }

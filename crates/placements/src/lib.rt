@@ -24,7 +24,7 @@ use standing::judge_standing;
 use tablet_rows::lookup_tablet;
 
 // The answer, and the placements after it.
-#[derive(Drop)]
+#[derive(Clone, Copy)]
 pub struct PlacementsAnswered {
     pub answer: Answer,
     pub placements: Placements,

@@ -9,41 +9,41 @@ use metadata::{
 };
 
 // What a question to the store gives: whether the store is sound, whether the row is there, and the row.
-#[derive(Drop)]
+#[derive(Clone, Copy)]
 pub struct NodeFound {
     pub sound: bool,
     pub found: bool,
     pub node: NodeDescriptor,
 }
 
-#[derive(Drop)]
+#[derive(Clone, Copy)]
 pub struct TabletFound {
     pub sound: bool,
     pub found: bool,
     pub tablet: TabletDescriptor,
 }
 
-#[derive(Drop)]
+#[derive(Clone, Copy)]
 pub struct PlacementFound {
     pub sound: bool,
     pub found: bool,
     pub placement: DesiredReplicaPlacement,
 }
 
-#[derive(Drop)]
+#[derive(Clone, Copy)]
 pub struct RetirementFound {
     pub sound: bool,
     pub found: bool,
     pub retirement: RetiredReplicaLifetime,
 }
 
-#[derive(Drop)]
+#[derive(Clone, Copy)]
 pub struct NextFound {
     pub sound: bool,
     pub next: NextReplicaId,
 }
 
-#[derive(Drop)]
+#[derive(Clone, Copy)]
 pub struct Completeness {
     pub sound: bool,
     pub complete: bool,

@@ -1,3 +1,5 @@
+#![tactic(auto)]
+
 // What a tape holds: its opening, and what stands at each place behind it.
 ghost use Rattle.std.specs.Prelude.{◌≡◌, ◌<◌};
 ghost use Rattle.reading.specs.Reader.{is_command, size_of, next_at, read_from, lines, open_tape, cut_opening, body_at};
@@ -5,7 +7,7 @@ ghost use Rattle.reading.specs.Reader.{is_command, size_of, next_at, read_from, 
 use metadata::{Answer, Answered, TABLE_ROOM};
 
 // What stands at a place of a tape: nothing more, an unknown byte, a command that is cut short, or a whole command with its byte and the place of the next.
-#[derive(Drop)]
+#[derive(Clone, Copy)]
 pub enum Next {
     End,
     Unknown(u8),

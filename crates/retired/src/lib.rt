@@ -1,3 +1,5 @@
+#![tactic(auto)]
+
 // The numbers that are retired in a group, and the checks of a retirement by the rows that were looked up.
 ghost use Rattle.std.specs.Prelude.{◌≡◌, List, ℕ, take};
 ghost use Rattle.metadata.specs.Tablets.{is_replica_retired, desires};
@@ -13,7 +15,7 @@ use replicas::placement_holds;
 use rows::{LookedUp, PlacementFound, find_id, looked};
 
 // The numbers that are retired in a group: the first count places are used.
-#[derive(Drop)]
+#[derive(Clone, Copy)]
 pub struct Numbers {
     pub count: usize,
     pub ids: [u64; RETIREMENT_ROOM],

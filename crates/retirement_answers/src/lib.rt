@@ -1,3 +1,5 @@
+#![tactic(auto)]
+
 // Retirement on lent tables: no table is copied.
 ghost use Rattle.std.specs.Prelude.{◌≡◌, length, take};
 ghost use Rattle.lent_rows.specs.Lent.{lent_tablets, lent_placements, lent_retirements};

@@ -1,3 +1,5 @@
+#![tactic(auto)]
+
 // The retirements: rows that rise by their group and, within a group, by their replica.
 ghost use Rattle.std.specs.Prelude.{◌≡◌, ◌≤◌, ◌<◌, take, get_or};
 ghost use Rattle.laws.specs.Keyed.{before, has, row};

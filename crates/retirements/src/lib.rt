@@ -1,3 +1,5 @@
+#![tactic(auto)]
+
 // Retirement: a replica number that is no longer desired is given up for good.
 ghost use Rattle.std.specs.Prelude.{◌≡◌, true, cond, leb, length, take};
 ghost use Rattle.laws.specs.Keyed.{put};
@@ -82,7 +84,7 @@ pub fn judge_retirement(
 }
 
 // What the handler gives: the answer, and the one table that it changes.
-#[derive(Drop)]
+#[derive(Clone, Copy)]
 pub struct RetirementsAnswered {
     pub answer: Answer,
     pub retirements: Retirements,

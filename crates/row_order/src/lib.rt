@@ -1,3 +1,5 @@
+#![tactic(auto)]
+
 // Whether the rows of a table rise by their key, and whether those past its count are zero.
 ghost use Rattle.std.specs.Prelude.{◌≡◌, take, drop};
 ghost use Rattle.laws.specs.Keyed.{before};

@@ -1,3 +1,5 @@
+#![tactic(auto)]
+
 // What the five tables share: a crate for each is above this one.
 ghost use Rattle.std.specs.Prelude.{◌≡◌, ℕ, eqb, take};
 ghost use Rattle.laws.specs.Rows.{find_index, or_else};
@@ -10,70 +12,70 @@ use metadata::{
 };
 
 // A table after an insertion; without room it is as it was.
-#[derive(Drop)]
+#[derive(Clone, Copy)]
 pub struct NodesWith {
     pub room: bool,
     pub nodes: Nodes,
 }
 
 // A table after an insertion; without room it is as it was.
-#[derive(Drop)]
+#[derive(Clone, Copy)]
 pub struct TablesWith {
     pub room: bool,
     pub tables: Tables,
 }
 
 // A table after an insertion; without room it is as it was.
-#[derive(Drop)]
+#[derive(Clone, Copy)]
 pub struct TabletsWith {
     pub room: bool,
     pub tablets: Tablets,
 }
 
 // A table after an insertion; without room it is as it was.
-#[derive(Drop)]
+#[derive(Clone, Copy)]
 pub struct PlacementsWith {
     pub room: bool,
     pub placements: Placements,
 }
 
 // A table after an insertion; without room it is as it was.
-#[derive(Drop)]
+#[derive(Clone, Copy)]
 pub struct RetirementsWith {
     pub room: bool,
     pub retirements: Retirements,
 }
 
 // The row under a key, and whether it is there; where it is not, the row of zeros.
-#[derive(Drop)]
+#[derive(Clone, Copy)]
 pub struct NodeFound {
     pub there: bool,
     pub row: NodeDescriptor,
 }
 
 // The same of a tablet.
-#[derive(Drop)]
+#[derive(Clone, Copy)]
 pub struct TabletFound {
     pub there: bool,
     pub row: TabletDescriptor,
 }
 
 // The same of a placement.
-#[derive(Drop)]
+#[derive(Clone, Copy)]
 pub struct PlacementFound {
     pub there: bool,
     pub row: DesiredReplicaPlacement,
 }
 
 // The same of a retirement.
-#[derive(Drop)]
+#[derive(Clone, Copy)]
 pub struct RetirementFound {
     pub there: bool,
     pub row: RetiredReplicaLifetime,
 }
 
 // Whether a lookup gave a row, to be taken out of it before the rest goes on.
-#[derive(Drop)]
+#[derive(Clone, Copy)]
 pub enum LookedUp {
     Row,
     Nothing,

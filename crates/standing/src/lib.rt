@@ -1,3 +1,5 @@
+#![tactic(auto)]
+
 // Where the copies of a tablet may stand (document 01, port item 9: refusals 17 and 26 to 29). Each replica's node is looked up once, and its row handed on.
 ghost use Rattle.std.specs.Prelude.{◌≡◌, List, map, take};
 ghost use Rattle.metadata.specs.Answers.{each};

@@ -1,3 +1,5 @@
+#![tactic(auto)]
+
 // The tables: rows that rise by their id.
 ghost use Rattle.std.specs.Prelude.{◌≡◌, ◌≤◌, ◌<◌, take, get_or};
 ghost use Rattle.laws.specs.Keyed.{before};

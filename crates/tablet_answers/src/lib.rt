@@ -1,3 +1,5 @@
+#![tactic(auto)]
+
 // Tablets on lent tables: no table is copied.
 ghost use Rattle.std.specs.Prelude.{◌≡◌, cond, length};
 ghost use Rattle.laws.specs.Lists.{any, tally};

@@ -1,3 +1,5 @@
+#![tactic(auto)]
+
 // The checks of a tablet against one row: its table's, and another tablet's.
 ghost use Rattle.std.specs.Prelude.{◌≡◌, cond, ◌≤◌};
 ghost use Rattle.metadata.specs.Tables.{table_of};

@@ -164,7 +164,7 @@ pub fn is_complete(k: TableId, tables: Tables, tablets: Tablets) -> bool
 }
 
 // What the handler gives: the answer, and the one table that it changes.
-#[derive(Drop)]
+#[derive(Clone, Copy)]
 pub struct TabletsAnswered {
     pub answer: Answer,
     pub tablets: Tablets,

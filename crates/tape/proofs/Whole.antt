@@ -4,7 +4,7 @@ use native.Mathlib.Omega.{arith}
 use native.Mathlib.Nat.{div-add-mod', mod-lt}
 use mathlib.Core.Path.{◌≡◌, sym, ap, ap₂, ◌∙◌}
 use mathlib.Core.Bool.{Bool, true, false}
-use mathlib.Core.List.{List, [], ◌∷◌, ◌++◌, append_nil}
+use mathlib.Core.List.{List, [], ◌∷◌, ◌++◌, append-nil}
 use lib.ListN.{length, drop}
 use borrow.Author.Tests.{le-leb, lt-leb}
 use Rattle.metadata.specs.Answers.{reported, is_applied}
@@ -97,4 +97,4 @@ module _ (l : List ℕ) (o : Answered) (b : Bool) (q : o ≡ open_tape l) (p : b
     unfolding ran_out numbers
     refusal_out new e h w =
         let f : 4 * length (outcome l) ≤ length out = omega (arith, ap length (one_line e)) in
-        rw (le-leb (4 * length (outcome l)) (length out) f, one_line e) (w ∙ ap (λ (x : List ℕ). x ++ drop 4 out) (sym (append_nil (numbers_of (reported o.answer)))))
+        rw (le-leb (4 * length (outcome l)) (length out) f, one_line e) (w ∙ ap (λ (x : List ℕ). x ++ drop 4 out) (sym (append-nil (numbers_of (reported o.answer)))))

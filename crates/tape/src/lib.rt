@@ -14,7 +14,7 @@ use reports::is_applied;
 use tape_commands::run_commands;
 
 // A run of a whole tape: whether the opening was accepted, whether the list was too short for the answers, how many there are, and the store.
-#[derive(Drop)]
+#[derive(Clone, Copy)]
 pub struct Ran {
     pub opened: bool,
     pub short: bool,

@@ -13,7 +13,7 @@ use metadata::Answer;
 use reports::is_applied;
 
 // The answer, and what is held beside the lent rows afterwards.
-#[derive(Drop)]
+#[derive(Clone, Copy)]
 pub struct Turn {
     pub answer: Answer,
     pub held: Held,

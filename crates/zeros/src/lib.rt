@@ -1,3 +1,5 @@
+#![tactic(auto)]
+
 // Rows of zeros, those past a table's count, and whether a row is one.
 ghost use Rattle.std.specs.Prelude.{◌≡◌, drop};
 ghost use Rattle.laws.specs.Lists.{every};

@@ -1,0 +1,14 @@
+use Prim.Native.Nat.{◌-◌}
+use mathlib.Core.List.{map}
+use Rattle.laws.proofs.Filling.{Filling}
+use Rattle.lent_rows.specs.Lent.{placement_row}
+use Rattle.metadata.specs.Rooms.{tablet_room}
+use Rattle.metadata.specs.Tables.{blank_placement}
+use Rattle.metadata.specs.declared.DesiredReplicaPlacement.{DesiredReplicaPlacement}
+use Rattle.held.proofs.placements_of.Given as goal
+
+abbrev pub invariant-loop-i : goal.invariant-loop-i
+invariant-loop-i l = Filling blank_placement (λ (x : DesiredReplicaPlacement). x) tablet_room tablet_room (map placement_row l.rows) l.out l.i
+
+abbrev pub decreases-loop-i : goal.decreases-loop-i
+decreases-loop-i l = tablet_room - l.i

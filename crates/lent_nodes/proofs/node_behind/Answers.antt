@@ -1,0 +1,27 @@
+use lib.ListN.{length-map}
+use Rattle.laws.proofs.Search.{searching}
+use Rattle.lent_nodes.proofs.node_behind.Goals as goal
+
+pub loop-i-init : goal.loop-i-init
+loop-i-init c = search (length-map, searching)
+
+pub returns-then-rows-i : goal.returns-then-rows-i
+returns-then-rows-i c = search searching
+
+pub node_after-requires : goal.node_after-requires
+node_after-requires c = search searching
+
+pub returns-then-node_after : goal.returns-then-node_after
+returns-then-node_after c = search searching
+
+pub overflow_add-i : goal.overflow_add-i
+overflow_add-i c = search searching
+
+pub loop-i-smaller : goal.loop-i-smaller
+loop-i-smaller c = search searching
+
+pub loop-i-preserved : goal.loop-i-preserved
+loop-i-preserved c = search searching
+
+pub returns : goal.returns
+returns c = search searching

@@ -1,0 +1,15 @@
+use Prim.Native.Nat.{◌-◌}
+use mathlib.Core.List.{map}
+use lib.ListN.{length}
+use Rattle.laws.proofs.Search.{Searching}
+use Rattle.metadata.specs.Tables.{blank_placement}
+use lib.Dec.{ltb}
+use Rattle.metadata.specs.declared.DesiredReplicaPlacement.{DesiredReplicaPlacement}
+use Rattle.lent_rows.specs.Lent.{placement_row}
+use Rattle.lent_placements.proofs.placement_behind.Given as goal
+
+abbrev pub invariant-loop-i : goal.invariant-loop-i
+invariant-loop-i l = Searching blank_placement (λ (n : DesiredReplicaPlacement). ltb l.id n.tablet_id.0) (length l.rows) l.count (map placement_row l.rows) l.i
+
+abbrev pub decreases-loop-i : goal.decreases-loop-i
+decreases-loop-i l = l.count - l.i

@@ -1,0 +1,14 @@
+use Prim.Native.Nat.{◌-◌}
+use mathlib.Core.List.{map}
+use lib.ListN.{length}
+use Rattle.laws.proofs.Search.{Searching}
+use Rattle.metadata.specs.Tables.{retirement_key, zero_retirement}
+use Rattle.rows.specs.Results.{under}
+use Rattle.lent_rows.specs.Lent.{retirement_row}
+use Rattle.lent_retirements.proofs.find_retirement.Given as goal
+
+abbrev pub invariant-loop-i : goal.invariant-loop-i
+invariant-loop-i l = Searching zero_retirement (under retirement_key (l.group.0, l.replica.0)) (length l.rows) l.count (map retirement_row l.rows) l.i
+
+abbrev pub decreases-loop-i : goal.decreases-loop-i
+decreases-loop-i l = l.count - l.i

@@ -1,0 +1,10 @@
+use borrow.Author.Rules.{rules}
+use Rattle.metadata.specs.Tables.{placement_key}
+use Rattle.rows.proofs.Lookup.{not_there, no_row, is_there, the_row}
+use Rattle.placement_rows.proofs.lookup_placement.Goals as goal
+
+pub returns-in_default : goal.returns-in_default
+returns-in_default c = search (rules, not_there placement_key, no_row placement_key)
+
+pub returns : goal.returns
+returns c = search (rules, is_there placement_key, the_row placement_key)

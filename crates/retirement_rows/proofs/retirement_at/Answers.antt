@@ -1,0 +1,10 @@
+use borrow.Author.Rules.{rules}
+use Rattle.laws.proofs.Unused.{get_unused}
+use Rattle.laws.proofs.Rows.{length_mapped, get_any}
+use Rattle.retirement_rows.proofs.retirement_at.Goals as goal
+
+pub returns-then-i-ge-RETIREMENT_ROOM : goal.returns-then-i-ge-RETIREMENT_ROOM
+returns-then-i-ge-RETIREMENT_ROOM c = search (length_mapped, get_unused, rules)
+
+pub returns : goal.returns
+returns c = search (length_mapped, get_any, rules)

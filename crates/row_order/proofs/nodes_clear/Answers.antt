@@ -1,0 +1,29 @@
+use Rattle.laws.proofs.Clear.{clearing}
+use Rattle.row_order.proofs.nodes_clear.Goals as goal
+
+pub loop-i-init : goal.loop-i-init
+loop-i-init c = search clearing
+
+pub offset_bounds-rows-i : goal.offset_bounds-rows-i
+offset_bounds-rows-i c = search clearing
+
+pub bounds-rows-i : goal.bounds-rows-i
+bounds-rows-i c = search clearing
+
+pub is_zero_node-requires : goal.is_zero_node-requires
+is_zero_node-requires c = search clearing
+
+pub overflow_add-i : goal.overflow_add-i
+overflow_add-i c = search clearing
+
+pub loop-i-smaller : goal.loop-i-smaller
+loop-i-smaller c = search clearing
+
+pub loop-i-preserved : goal.loop-i-preserved
+loop-i-preserved c = search clearing
+
+pub returns-else-is_zero_node : goal.returns-else-is_zero_node
+returns-else-is_zero_node c = search clearing
+
+pub returns : goal.returns
+returns c = search clearing

@@ -1,0 +1,10 @@
+use Prim.Native.Nat.{◌-◌}
+use Rattle.placement_lines.specs.PlacementLines.{node_number}
+use Rattle.pieces.proofs.Loops.{Putting}
+use Rattle.store_lines.proofs.put_picked.Given as goal
+
+abbrev pub invariant-loop-i : goal.invariant-loop-i
+invariant-loop-i l = Putting node_number 21 l.n l.ids l.initial.out l.at l.i l.out l.next
+
+abbrev pub decreases-loop-i : goal.decreases-loop-i
+decreases-loop-i l = l.n - l.i

@@ -1,0 +1,12 @@
+use Prim.Native.Nat.{◌-◌}
+use Rattle.rows.specs.Results.{under}
+use Rattle.metadata.specs.Tables.{group_key, blank_tablet}
+use Rattle.metadata.specs.Rooms.{tablet_room}
+use Rattle.laws.proofs.Search.{Searching}
+use Rattle.tablet_rows.proofs.find_group.Given as goal
+
+abbrev pub invariant-loop-i : goal.invariant-loop-i
+invariant-loop-i l = Searching blank_tablet (under group_key l.group.0) tablet_room l.count l.rows l.i
+
+abbrev pub decreases-loop-i : goal.decreases-loop-i
+decreases-loop-i l = l.count - l.i

@@ -1,0 +1,10 @@
+use borrow.Author.Rules.{rules}
+use Rattle.metadata.specs.Tables.{tablet_key}
+use Rattle.rows.proofs.Lookup.{not_there, no_row, is_there, the_row}
+use Rattle.tablet_rows.proofs.lookup_tablet.Goals as goal
+
+pub returns-in_default : goal.returns-in_default
+returns-in_default c = search (rules, not_there tablet_key, no_row tablet_key)
+
+pub returns : goal.returns
+returns c = search (rules, is_there tablet_key, the_row tablet_key)
