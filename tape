@@ -2,19 +2,19 @@
 # Runs the tape program on standard input: ./tape < examples/first.tape. Proves and builds first what is not current, one build at a time.
 set -eu
 here=$(CDPATH= cd "$(dirname "$0")" && pwd)
-program=$here/target/bin/placement_tape
+program=$here/crates/placement_tape/out/placement_tape
 checked=$here/target/tape.checked
 lock=$here/target/tape.lock
 
-# rt leaves the program as it is where nothing of it changed, so the time of the last check is kept beside it
+# `rt run` proves, builds and runs it, here on an empty tape. It leaves the program as it is where nothing of it changed, so the time of the last build is kept beside it
 is_current() {
-    [ -x "$program" ] && [ -e "$checked" ] && [ -z "$(find "$here/crates" "$here/crates.txt" -newer "$checked" -type f | head -n 1)" ]
+    [ -x "$program" ] && [ -e "$checked" ] && [ -z "$(find "$here/crates" "$here/crates.txt" -name out -prune -o -newer "$checked" -type f -print | head -n 1)" ]
 }
 
 build() {
     mkdir -p "$here/target"
     touch "$checked.next"
-    (cd "$here" && rt check placement_tape) >&2
+    (cd "$here/crates/placement_tape" && rt run < /dev/null > /dev/null) >&2
     mv "$checked.next" "$checked"
 }
 

@@ -1,4 +1,4 @@
-/* Lupinadze: the placement tables behind the command tape of document 01, as a static library. `rt staticlib lupinadze` writes target/staticlib/liblupinadze.a.
+/* Lupinadze: the placement tables behind the command tape of document 01, as a static library. `rt lib` in crates/lupinadze writes out/liblupinadze.a there.
  * It has no state, allocates nothing, calls nothing of the system, and may be called from several threads at once.
  *
  * Slices: a list is passed as two arguments, a pointer to its first element and the number of its elements. The pointer is not null, also where the number is 0, and is aligned for its

@@ -80,7 +80,7 @@ def spelled(name, names):
 def table(root):
     own, specs = declared(root)
     crates = set(os.listdir(os.path.join(root, "crates")))
-    for p in files(root, ".antt"):
+    for p in (it for it in files(root, ".antt") if not by_hand(it)):
         # a name that some file has from the library keeps its spelling
         for m in re.finditer(r"use ([^\s{};]+)\.\{([^}]*)\}", read(p)):
             if not (m[1].startswith("Rattle.") and m[1].split(".")[1] in crates):

@@ -1,5 +1,5 @@
-//! Finds liblupinadze.a: in the directory that LUPINADZE_LIB_DIR names, else in the repository's target/staticlib, where `rt` proves and writes it unless it is newer than
-//! every crate.
+//! Finds liblupinadze.a: in the directory that LUPINADZE_LIB_DIR names, else in the repository's crates/lupinadze/out, where `rt` proves and writes it unless it is newer
+//! than every crate.
 
 use std::path::{Path, PathBuf};
 use std::process::Command;
@@ -27,26 +27,28 @@ fn built() -> PathBuf {
     for source in &sources {
         println!("cargo::rerun-if-changed={}", source.display());
     }
-    let directory = root.join("target/staticlib");
+    let package = root.join("crates/lupinadze");
+    let directory = package.join("out");
     let newest = sources.iter().filter_map(|source| changed(source)).max();
     if changed(&directory.join("liblupinadze.a")) < newest {
         let status = Command::new("rt")
-            .args(["staticlib", "lupinadze"])
-            .current_dir(&root)
+            .arg("lib")
+            .current_dir(&package)
             .status()
             .unwrap_or_else(|error| {
                 panic!(
                     "rt: {error}; LUPINADZE_LIB_DIR may name a directory that has liblupinadze.a"
                 )
             });
-        assert!(status.success(), "rt staticlib lupinadze: {status}");
+        assert!(status.success(), "rt lib in crates/lupinadze: {status}");
     }
     directory
 }
 
-/// When a file was last changed, or the newest file of a directory; nothing where there is none.
+/// When a file was last changed, or the newest file of a directory, but for what `rt` writes to out/; nothing where there is none.
 fn changed(path: &Path) -> Option<SystemTime> {
     match fs::read_dir(path) {
+        Ok(_) if path.ends_with("out") => None,
         Ok(entries) => entries
             .filter_map(|entry| changed(&entry.ok()?.path()))
             .max(),

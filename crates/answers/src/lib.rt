@@ -1,3 +1,5 @@
+#![tactic(auto)]
+
 // What a command of the tape is answered on what the run holds.
 ghost use Rattle.std.specs.Prelude.{◌≡◌, ◌≤◌};
 ghost use Rattle.metadata.specs.Model.{judge, decide, view};

@@ -1,3 +1,5 @@
+#![tactic(auto)]
+
 // One command on a sound store that changes its catalog: one table is stored with the marks that it raises, and the rest stays.
 ghost use Rattle.std.specs.Prelude.{◌≡◌, true, cond};
 ghost use Rattle.metadata.specs.Answers.{is_applied};

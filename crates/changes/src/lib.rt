@@ -1,3 +1,5 @@
+#![tactic(auto)]
+
 // A placement against the stored one (document 01, refusals 30 to 34 and 39): its epoch, the replicas that are kept, its row.
 ghost use Rattle.std.specs.Prelude.{◌≡◌, min, take};
 ghost use Rattle.metadata.specs.Rooms.{replica_room};

@@ -1,3 +1,5 @@
+#![tactic(auto)]
+
 // What is asked of a command of the tape before its own checks, so before it needs any table.
 ghost use Rattle.std.specs.Prelude.{◌≡◌, true, ◌&&◌, ◌+◌, ◌≤◌, leb, length};
 ghost use Rattle.command_admission.specs.Admitted.{admitted};

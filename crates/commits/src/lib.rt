@@ -1,3 +1,5 @@
+#![tactic(auto)]
+
 // What an Applied command of the tape changes of what its run holds: one table, where it stands, and the marks.
 ghost use Rattle.std.specs.Prelude.{◌≡◌, true, ◌+◌, ◌≤◌, length};
 ghost use Rattle.commits.specs.Left.{nodes_moved, nodes_registered, named, NodesLeft, TabletsLeft, PlacementsLeft, RetirementsLeft, Change, Left};

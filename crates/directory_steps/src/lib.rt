@@ -1,3 +1,5 @@
+#![tactic(auto)]
+
 // One command on a sound store that changes its directory: the name, or the nodes. The catalog stays.
 ghost use Rattle.std.specs.Prelude.{◌≡◌, true};
 ghost use Rattle.metadata.specs.Commands.{naming, registering, lifecycle, picking};

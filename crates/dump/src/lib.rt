@@ -1,3 +1,5 @@
+#![tactic(auto)]
+
 // The final tables and marks as text in a lent slice: a line for each row, by its place among all lines.
 ghost use Rattle.std.specs.Prelude.{◌≡◌, ◌≤◌, [], length, get_or};
 ghost use Rattle.lines.specs.Lines.{Appended};

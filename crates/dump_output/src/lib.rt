@@ -1,3 +1,5 @@
+#![tactic(auto)]
+
 // The dump on standard output, line by line.
 ghost use Rattle.std.specs.Prelude.{◌≡◌, length};
 ghost use Rattle.dump.specs.Dump.{dump_lines};

@@ -1,3 +1,5 @@
+#![tactic(auto)]
+
 // The tape on standard input: what is left of a buffer goes to its front, and more is read behind it.
 ghost use Rattle.std.specs.Prelude.{◌≡◌, ◌+◌, ◌≤◌, take, drop, length};
 ghost use Rattle.input.specs.Buffers.{buffer_size, Kept};
@@ -74,7 +76,14 @@ fn finish(out: Stdout, buf: [u8; BUFFER_SIZE], left: usize, line: u64)
 }
 
 // The bytes from a place on, and more of the input behind them.
-pub fn refill(input: Stdin, out: Stdout, buf: [u8; BUFFER_SIZE], at: usize, have: usize, line: u64) -> Filled
+pub fn refill(
+    input: Stdin,
+    out: Stdout,
+    buf: [u8; BUFFER_SIZE],
+    at: usize,
+    have: usize,
+    line: u64,
+) -> Filled
     requires { (at ≤ have) × (have ≤ buffer_size) }
     ensures { (result.have ≤ buffer_size) × Kept at have buf result.buf result.have }
 {

@@ -1,3 +1,5 @@
+#![tactic(auto)]
+
 // Copies, preferred leaders and failure domains in turn, on lent nodes.
 ghost use Rattle.std.specs.Prelude.{◌≡◌, List, map, take};
 ghost use Rattle.lent_rows.specs.Lent.{lent_nodes};

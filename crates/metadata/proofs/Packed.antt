@@ -1,5 +1,5 @@
 -- A sound store is its rows packed, and packed rows that are sound are a sound store: `pack-view`, `view-sound`, `pack-sound`. Assumes nothing.
-use Prim.Native.Nat.{ℕ, ◌-◌, ◌≤◌}
+use Prim.Native.Nat.{ℕ, ◌≤◌}
 use native.Mathlib.Omega.{arith}
 use mathlib.Core.Path.{◌≡◌, sym, subst}
 use mathlib.Core.Bool.{Bool, true}

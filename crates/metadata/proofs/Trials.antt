@@ -11,53 +11,10 @@ use Rattle.laws.specs.Tests.{all_of}
 use Rattle.metadata.specs.Rooms.{name_width, label_width, replica_room}
 use Rattle.metadata.specs.Texts.{fits, text_admitted, blank, same_text, same_optional, optional_admitted, optional_fits, is_zero_text, all_zero, zero_key, no_label}
 use Rattle.metadata.specs.Ranges.{lex_leb, overlapb, later_start}
-use Rattle.metadata.specs.Labels.{
-  shares_label,
-  new_label,
-  distinct,
-  regions,
-  zones,
-  racks,
-  locality_gain,
-  better,
-  candidate,
-  step_best,
-  best_of,
-  choose_from,
-  choose,
-  select_initial_placement,
-  judge_picking,
-}
+use Rattle.metadata.specs.Labels.{shares_label, new_label, distinct, regions, zones, racks, locality_gain, better, candidate, step_best, best_of, choose_from, choose, judge_picking}
 use Rattle.metadata.specs.Answers.{reported, report, is_applied, ◌⊳◌, refuse, each}
-use Rattle.metadata.specs.Tables.{
-  same_node_directory,
-  same_node,
-  same_partition,
-  same_tablet,
-  same_replica,
-  same_list,
-  same_policy,
-  same_placement,
-  same_retirement,
-  zero_replica,
-}
-use Rattle.metadata.specs.Commands.{
-  Command,
-  naming,
-  registering,
-  lifecycle,
-  tablet,
-  placement,
-  retirement,
-  picking,
-  lowest,
-  node_texts_admitted,
-  partition_admitted,
-  replicas_admitted,
-  minima_admitted,
-  leaders_admitted,
-  class_blank,
-}
+use Rattle.metadata.specs.Tables.{same_node_directory, same_node, same_partition, same_tablet, same_replica, same_list, same_policy, same_placement, zero_replica}
+use Rattle.metadata.specs.Commands.{Command, naming, registering, lifecycle, tablet, placement, lowest, node_texts_admitted, partition_admitted, replicas_admitted, minima_admitted, leaders_admitted, class_blank}
 use Rattle.metadata.specs.Nodes.{
   judge_naming,
   lifecycle_can_advance,
@@ -71,17 +28,7 @@ use Rattle.metadata.specs.Nodes.{
   moved_nodes,
   registered_nodes,
 }
-use Rattle.metadata.specs.Tablets.{
-  judge_hash,
-  judge_range,
-  judge_new_tablet,
-  judge_tablet,
-  is_replica_retired,
-  desires,
-  judge_known_retirement,
-  judge_new_retirement,
-  judge_retirement,
-}
+use Rattle.metadata.specs.Tablets.{judge_hash, judge_range, judge_new_tablet, judge_tablet, is_replica_retired}
 use Rattle.metadata.specs.Placements.{
   stands_already,
   eligible,

@@ -4,18 +4,7 @@ use Rattle.laws.specs.Keyed.{put}
 use Rattle.metadata.specs.Rooms.{node_room, table_room, tablet_room, retirement_room}
 use Rattle.metadata.specs.Marks.{highest}
 use Rattle.metadata.specs.Answers.{is_applied, ◌⊳◌, refuse}
-use Rattle.metadata.specs.Tables.{
-  node_key,
-  tablet_key,
-  placement_key,
-  retirement_key,
-  desired,
-  zero_node,
-  zero_table,
-  zero_tablet,
-  zero_placement,
-  zero_retirement,
-}
+use Rattle.metadata.specs.Tables.{tablet_key, placement_key, retirement_key, desired, zero_node, zero_table, zero_tablet, zero_placement, zero_retirement}
 use Rattle.metadata.specs.Commands.{Command, naming, registering, lifecycle, tablet, placement, retirement, picking, faults, lowest, needs_name}
 use Rattle.metadata.specs.Labels.{judge_picking}
 use Rattle.metadata.specs.Nodes.{judge_naming, judge_lifecycle, judge_registering, moved_nodes, registered_nodes}

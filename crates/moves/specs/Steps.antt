@@ -4,7 +4,6 @@ use Rattle.laws.specs.Rows.{on_found}
 use Rattle.laws.specs.declared.Found.{Found}
 use Rattle.metadata.specs.Answers.{◌⊳◌, refuse, each}
 use Rattle.metadata.specs.Tables.{desired}
-use Rattle.metadata.specs.Commands.{lifecycle}
 use Rattle.metadata.specs.Nodes.{lifecycle_can_advance}
 use Rattle.metadata.specs.declared.Answer.{Answer}
 use Rattle.metadata.specs.declared.Answer.TheVariants as A

@@ -1,3 +1,5 @@
+#![tactic(auto)]
+
 // Registering, lifecycle and the first choice on lent tables: no table is copied.
 ghost use Rattle.std.specs.Prelude.{◌≡◌, length};
 ghost use Rattle.std.proofs.Math.Option.{none};

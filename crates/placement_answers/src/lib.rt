@@ -1,3 +1,5 @@
+#![tactic(auto)]
+
 // Placements on lent tables: no table is copied.
 ghost use Rattle.std.specs.Prelude.{◌≡◌, length};
 ghost use Rattle.lent_rows.specs.Lent.{lent_nodes, lent_tablets, lent_placements, lent_retirements};

@@ -1,3 +1,5 @@
+#![tactic(auto)]
+
 // Placement: where the copies of a tablet are to stand (document 01, port item 9).
 ghost use Rattle.std.specs.Prelude.{◌≡◌, true, cond};
 ghost use Rattle.laws.specs.Keyed.{put};

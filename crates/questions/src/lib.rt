@@ -1,3 +1,5 @@
+#![tactic(auto)]
+
 // Questions to a store. Each tests the store first; of one that is not sound it says that alone.
 ghost use Rattle.std.specs.Prelude.{◌≡◌};
 ghost use Rattle.questions.specs.Lookups.{node_found, tablet_found, placement_found, retirement_found, next_found, completeness};

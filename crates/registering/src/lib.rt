@@ -1,3 +1,5 @@
+#![tactic(auto)]
+
 // Registering: a new node brings endpoints that no other has, a known one may only move on.
 ghost use Rattle.std.specs.Prelude.{◌≡◌, true, false, cond, ◌<◌};
 ghost use Rattle.laws.specs.Keyed.{has};

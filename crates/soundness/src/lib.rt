@@ -1,3 +1,5 @@
+#![tactic(auto)]
+
 // Reason 12: whether a store keeps to its room, its rows rise, its padding is zero and its marks are sound.
 ghost use Rattle.std.specs.Prelude.{◌≡◌};
 ghost use Rattle.laws.specs.Lists.{every};

@@ -33,7 +33,6 @@ use Rattle.metadata.specs.Model.{
 use Rattle.metadata.specs.Sound.{sound_table, sound_directory, sound_catalog, sound}
 use Rattle.metadata.proofs.Packed.{pack-view}
 use Rattle.metadata.specs.declared.Answer.{Answer}
-use Rattle.metadata.specs.declared.Answer.TheVariants as A
 use Rattle.metadata.specs.declared.Answered.{Answered}
 use Rattle.metadata.specs.declared.Name.{Name}
 use Rattle.metadata.specs.declared.NodeId.{NodeId}

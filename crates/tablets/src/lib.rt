@@ -1,3 +1,5 @@
+#![tactic(auto)]
+
 // Tablets and completeness.
 ghost use Rattle.std.specs.Prelude.{◌≡◌, true, cond, leb, length};
 ghost use Rattle.laws.specs.Keyed.{put};

@@ -1,3 +1,5 @@
+#![tactic(auto)]
+
 // One command of the tape: what it is answered, and then, where it is Applied, what it changes.
 ghost use Rattle.std.specs.Prelude.{◌≡◌, true};
 ghost use Rattle.answers.specs.Turns.{Ready};

@@ -1,0 +1,13 @@
+use borrow.Author.Rules.{rules}
+use lib.ListN.{length-map}
+use Rattle.entering.proofs.Entering.{new_among, new_id, leaving, moving_on}
+use Rattle.node_answers.proofs.judge_registering.Goals as goal
+
+pub returns-then-not-old : goal.returns-then-not-old
+returns-then-not-old c = search (length-map, rules, new_among, new_id)
+
+pub returns-then-is_applied-leaves : goal.returns-then-is_applied-leaves
+returns-then-is_applied-leaves c = search (rules, leaving)
+
+pub returns : goal.returns
+returns c = search (rules, moving_on)

@@ -1,0 +1,12 @@
+use Prim.Native.Nat.{◌-◌}
+use Rattle.laws.proofs.Every.{Checking}
+use Rattle.metadata.specs.Rooms.{node_room}
+use Rattle.metadata.specs.Sound.{sound_node}
+use Rattle.metadata.specs.Tables.{blank_node}
+use Rattle.soundness.proofs.node_rows.Given as goal
+
+abbrev pub invariant-loop-i : goal.invariant-loop-i
+invariant-loop-i l = Checking blank_node sound_node node_room 0 l.count l.rows l.i
+
+abbrev pub decreases-loop-i : goal.decreases-loop-i
+decreases-loop-i l = l.count - l.i

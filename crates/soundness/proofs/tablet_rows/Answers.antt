@@ -1,0 +1,32 @@
+use Rattle.laws.proofs.Front.{fronting}
+use Rattle.soundness.proofs.tablet_rows.Goals as goal
+
+pub loop-i-init : goal.loop-i-init
+loop-i-init c = search fronting
+
+pub returns-then-i-ge-TABLET_ROOM : goal.returns-then-i-ge-TABLET_ROOM
+returns-then-i-ge-TABLET_ROOM c = search fronting
+
+pub offset_bounds-rows-i : goal.offset_bounds-rows-i
+offset_bounds-rows-i c = search fronting
+
+pub bounds-rows-i : goal.bounds-rows-i
+bounds-rows-i c = search fronting
+
+pub sound_tablet-requires : goal.sound_tablet-requires
+sound_tablet-requires c = search fronting
+
+pub overflow_add-i : goal.overflow_add-i
+overflow_add-i c = search fronting
+
+pub loop-i-smaller : goal.loop-i-smaller
+loop-i-smaller c = search fronting
+
+pub loop-i-preserved : goal.loop-i-preserved
+loop-i-preserved c = search fronting
+
+pub returns-else-sound_tablet : goal.returns-else-sound_tablet
+returns-else-sound_tablet c = search fronting
+
+pub returns : goal.returns
+returns c = search fronting
