@@ -32,7 +32,6 @@ use Rattle.metadata.specs.declared.Answer.TheVariants as A
 use Rattle.metadata.specs.declared.DesiredReplicaPlacement.{DesiredReplicaPlacement}
 use Rattle.metadata.specs.declared.Name.{Name}
 use Rattle.metadata.specs.declared.NodeDescriptor.{NodeDescriptor}
-use Rattle.metadata.specs.declared.OptionalName.{OptionalName}
 use Rattle.metadata.specs.declared.RetiredReplicaLifetime.{RetiredReplicaLifetime}
 use Rattle.metadata.specs.declared.TabletDescriptor.{TabletDescriptor}
 use Rattle.metadata.proofs.AnswerLaws.{stop, go_on}

@@ -1,3 +1,5 @@
+#![tactic(auto)]
+
 // A chunk of the tape: its whole commands run, a line for each answer in a lent slice.
 ghost use Rattle.std.specs.Prelude.{◌≡◌, ◌≤◌, true, length};
 ghost use Rattle.held.specs.Stores.{lent_store, Whole};

@@ -19,7 +19,6 @@ use Rattle.metadata.specs.declared.DesiredReplicaPlacement.{DesiredReplicaPlacem
 use Rattle.metadata.specs.declared.MetadataAllocatorState.{MetadataAllocatorState}
 use Rattle.metadata.specs.declared.NodeDescriptor.{NodeDescriptor}
 use Rattle.metadata.specs.declared.NodeId.{NodeId}
-use Rattle.metadata.specs.declared.Nodes.{Nodes}
 use Rattle.metadata.specs.declared.TabletDescriptor.{TabletDescriptor}
 use Rattle.rows.specs.Results.{placements_put}
 use Rattle.rows.specs.Results.{under, nodes_with, nodes_set, tablets_with, retirements_with}

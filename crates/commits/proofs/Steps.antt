@@ -3,7 +3,7 @@ use Prim.Native.Nat.{ℕ, ◌+◌, ◌<◌}
 use mathlib.Core.Path.{◌≡◌, refl, sym, ap, ◌∙◌}
 use mathlib.Core.Bool.{true, false}
 use mathlib.Core.List.{List}
-use lib.ListN.{length, get_or}
+use lib.ListN.{get_or}
 use borrow.Author.Rules.{rules}
 use Rattle.commits.specs.Left.{nodes_moved, nodes_registered, named, NodesLeft, TabletsLeft, PlacementsLeft, RetirementsLeft, Change, Left}
 use Rattle.decode.specs.Decode.{number_at, byte_at, name_at, node_at, tablet_at, placement_at, retirement_at}

@@ -1,6 +1,5 @@
 -- Parts of the checks of where copies may stand, as the functions here have them. Assumes nothing.
 use Rattle.std.specs.Prelude.{not, List, eqb}
-use Rattle.laws.specs.Keyed.{row}
 use Rattle.rows.specs.declared.NodeFound.{NodeFound}
 use Rattle.metadata.specs.Answers.{◌⊳◌, refuse, each}
 use Rattle.metadata.specs.Tables.{desired, leaders}

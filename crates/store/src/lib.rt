@@ -1,3 +1,5 @@
+#![tactic(auto)]
+
 // The store that a user holds. Entry points have no `requires`: each tests the store first and answers 10, reason 12, where it is not sound.
 ghost use Rattle.std.specs.Prelude.{◌≡◌};
 ghost use Rattle.metadata.specs.Commands.{naming, registering, lifecycle, tablet, placement, retirement, picking};

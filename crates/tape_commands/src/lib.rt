@@ -1,3 +1,5 @@
+#![tactic(auto)]
+
 // The commands of a tape behind its opening, one after the other, their answers written as numbers.
 ghost use Rattle.std.specs.Prelude.{◌≡◌, true, ◌+◌, ◌*◌, ◌≤◌, ◌<◌, length};
 ghost use Rattle.held.specs.Stores.{lent_store, Whole};

@@ -1,0 +1,12 @@
+use Rattle.store.proofs.Entries.{test_true, entry_taken, entry_refused}
+use borrow.Author.Rules.{rules}
+use Rattle.store.proofs.apply_register_node.Goals as goal
+
+pub register_node_step-requires : goal.register_node_step-requires
+register_node_step-requires c = search (rules, test_true)
+
+pub returns-then-sound : goal.returns-then-sound
+returns-then-sound c = search (rules, entry_taken)
+
+pub returns : goal.returns
+returns c = search (rules, entry_refused)
