@@ -1,3 +1,5 @@
+#![tactic(auto)]
+
 // The command tape: the run over a whole tape.
 ghost use Rattle.std.specs.Prelude.{◌≡◌, true, ◌*◌, ◌≤◌, ◌<◌, length};
 ghost use Rattle.held.specs.Stores.{Empty};

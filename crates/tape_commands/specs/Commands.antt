@@ -1,5 +1,5 @@
 -- The commands of a tape, one after the other. Assumes nothing.
-use Rattle.std.specs.Prelude.{ℕ, ◌+◌, ◌*◌, ◌≡◌, true, List, ◌++◌, length, drop}
+use Rattle.std.specs.Prelude.{ℕ, ◌*◌, ◌≡◌, true, List, ◌++◌, length, drop}
 use Rattle.metadata.specs.Sound.{sound, run}
 use Rattle.metadata.specs.declared.Store.{Store}
 use Rattle.reading.specs.Reader.{read_from, tape_answers}
