@@ -1,3 +1,5 @@
+#![tactic(auto)]
+
 // A tape from standard input, run as it is read: never more than a buffer of it is held. The lines go to standard output.
 ghost use Rattle.std.specs.Prelude.{◌≡◌, true, ◌≤◌};
 ghost use Rattle.chunks.specs.Chunks.{Reached};
@@ -168,7 +170,13 @@ fn run_tape(
 }
 
 // The same from the opened store, whose four large tables have no rows; the store that is left.
-pub fn run_opened(input: Stdin, to: Stdout, store: Store, buf: [u8; BUFFER_SIZE], have: usize) -> Store
+pub fn run_opened(
+    input: Stdin,
+    to: Stdout,
+    store: Store,
+    buf: [u8; BUFFER_SIZE],
+    have: usize,
+) -> Store
     requires { (sound store ≡ true) × Empty store × (have ≤ buffer_size) }
     ensures { (sound result ≡ true) × Reached store result }
 {

@@ -1,3 +1,5 @@
+#![tactic(auto)]
+
 // The static library: a whole tape in memory, for C and Rust to link (bindings/). Names begin with the crate's, since a linked name is the whole program's.
 ghost use Rattle.std.specs.Prelude.{◌≡◌, length};
 ghost use Rattle.tape.specs.Tape.{outcome, ran_out};

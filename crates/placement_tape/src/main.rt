@@ -1,3 +1,5 @@
+#![tactic(auto)]
+
 // The tape program: the command tape on standard input, output lines on standard output. It reads as it goes and never holds
 // more than a buffer of the tape. With --dump it prints the final tables and marks behind the last line.
 use dump_output::dump_store;
@@ -13,7 +15,7 @@ fn mode(rt: &HostRuntime) -> io::Result<u8> {
     let mut words = env::args(rt)?;
     match (words.next(), words.next(), words.next()) {
         (_, None, _) => Ok(0),
-        (_, Some(word), None) => Ok(if word == "--dump" { 1 } else { 2 }),
+        (_, Some(word), None) => Ok(if word.as_str() == "--dump" { 1 } else { 2 }),
         (_, Some(_), Some(_)) => Ok(2),
     }
 }

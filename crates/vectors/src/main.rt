@@ -1,3 +1,5 @@
+#![tactic(auto)]
+
 // Replays stored tapes through the library's run of a whole tape. Standard input has for each tape the lengths of its name and of its bytes, eight bytes each,
 // little-endian, then both; for each the program prints its name, its lines, and the final tables and marks. The expected output is the oracle's (oracle/README.md).
 use dump_output::dump_store;
