@@ -70,5 +70,5 @@ module _ {k n : ℕ} {l : List DesiredReplica} {i : ℕ} where
       pub miss : (get_or l (i - 1) zero_replica).replica_id.0 ≢ k → Falling k n l (i - 1)
       miss e = record { long = s.long; short = omega (arith, s.short); left = rw (next_kept, ne_eqb _ _ e) }
 
--- for `search falling` at each need of such a loop
+-- for `search falling` at each goal of such a loop
 pub ruleset falling = (length_mapped, start, none_left, hit, miss, rules)

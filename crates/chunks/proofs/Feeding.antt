@@ -210,6 +210,6 @@ module _ (l : List ℕ) (s₀ : Store) (from first : ℕ) (old : List ℕ) (h : 
           stops = λ z. sym q ∙ e;
         })
 
--- for `search feeding` at each need of the loop
+-- for `search feeding` at each goal of the loop
 pub ruleset feeding =
     (feed_start, feed_sound, feed_used, feed_room, feed_long, feed_long_after, turn_ready, further_on, feed_next, feed_full, feed_over, feed_cut, feed_end, feed_unknown, rules)

@@ -101,6 +101,6 @@ module _ (name : OptionalName) (b : ℕ) (l : List ℕ) (at r : ℕ) (q : r ≡ 
     unfolding admitted admission ◌⊳◌ refuse
     none_early e = rw (← q, eq-eqb r 0 h, needs_go b l at k, ← n, e)
 
--- for `search reasoning` at each need
+-- for `search reasoning` at each goal
 pub ruleset reasoning =
     (room_1, room_2, room_3, room_3_id, room_3_last, room_4, room_5, room_6, reason-naming, reason_node, reason-lifecycle, reason-tablet, reason-placement, reason-retirement, reason_none, rules)

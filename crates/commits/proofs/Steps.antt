@@ -223,6 +223,6 @@ module _ (h : Held) (ns ts ps rs : List (List ℕ)) (b : ℕ) (l : List ℕ) (at
   left_nothing n1 n2 n3 n4 n5 n6 =
       record { store = choice_left s c.sounds b l at c.applied (last b c.known n1 n2 n3 n4 n5 n6); all = c.all }
 
--- for `search committing` at each need
+-- for `search committing` at each goal
 pub ruleset committing =
     (room_1, room_2, room_3, room_4, room_5, room_6, left_named, left_registered, left_moved, left_tablet, left_placement, left_retirement, left_nothing, rules)

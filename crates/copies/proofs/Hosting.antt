@@ -89,5 +89,5 @@ module _ {old : List DesiredReplica} {group : RaftGroupId} {class : OptionalLabe
         ids ≡ retired_numbers group.0 retirements → Applied ≡ each (check old group class nodes retirements) (take n l)
     full h nodes retirements g y = J.full (s.judged nodes retirements g y) h
 
--- for `search hosting` at each need of the loop that judges
+-- for `search hosting` at each goal of the loop that judges
 pub ruleset hosting = (length_mapped, start, pass, refuse_here, ended, full, rules)

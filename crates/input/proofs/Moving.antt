@@ -49,5 +49,5 @@ module _ (at have k size : ℕ) (l front ys : List ℕ) (h : have ≤ size) (e :
   pub kept_more : (got : ℕ) → Kept at have l (put_mid (have - at) k front ys) ((have - at) + got)
   kept_more got = record { whole = omega arith; same = same }
 
--- for `search moving` at each need of the loop
+-- for `search moving` at each goal of the loop
 pub ruleset moving = (start, move, ended, rules)

@@ -66,5 +66,5 @@ module _ {A : Type 0} {n at : ℕ} {l : List A} where
       ∙ set_at (take at l) (get_or l at d) (slice at n l ++ drop (suc n) l) x at m
       ∙ rw (t, add-one) (sym (append_assoc (take at l) (x ∷ slice at n l) (drop (suc n) l)))
 
--- for `search shifting` at each need of such a loop
+-- for `search shifting` at each goal of such a loop
 pub ruleset shifting = (begun, down, taken, rules)

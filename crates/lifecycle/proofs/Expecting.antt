@@ -49,5 +49,5 @@ module _ (k : NodeId) (count : ℕ) (rows : List TabletDescriptor) (last : ℕ) 
   unfolding still_expected
   expected_here t = refuse_here s h r at_its_row p t
 
--- for `search expecting` at each need of the loop
+-- for `search expecting` at each goal of the loop
 pub ruleset expecting = (length_mapped, start, ended, full, placed-inside, unexpected_here, expected_here, rules)

@@ -69,7 +69,7 @@ module _ {d : NodeDescriptor} {chosen : List NodeDescriptor} {room n : ℕ} {l :
       let q : length l ≤ i = omega (arith, s.long) in
       sym (s.left ∙ rw (no_room_left n l i q))
 
--- for `search comparing` at each need of such a loop
+-- for `search comparing` at each goal of such a loop
 pub ruleset comparing = (length_mapped, start, more, ended, full, rules)
 
 -- ---- what is chosen, with what is to come, is the whole choice

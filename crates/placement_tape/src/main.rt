@@ -2,30 +2,56 @@
 
 // The tape program: the command tape on standard input, output lines on standard output. It reads as it goes and never holds
 // more than a buffer of the tape. With --dump it prints the final tables and marks behind the last line.
+use check::same;
 use dump_output::dump_store;
 use feeding::run_opened;
 use input::{BUFFER_SIZE, read_full};
 use printing::print_line;
 use reports::is_applied;
-use std::io::{Eprint, Print};
-use std::{env, io};
+use std::env::{Env, FillError};
+use std::io::Print;
 
-// 0: no argument; 1: --dump; 2: anything else.
-fn mode(rt: &HostRuntime) -> io::Result<u8> {
-    let mut words = env::args(rt)?;
-    match (words.next(), words.next(), words.next()) {
-        (_, None, _) => Ok(0),
-        (_, Some(word), None) => Ok(if word.as_str() == "--dump" { 1 } else { 2 }),
-        (_, Some(_), Some(_)) => Ok(2),
+// The word is --dump, and none follows it.
+fn dump_alone(rt: HostRuntime, word: &[u8]) -> bool {
+    let mut next = [0u8; 1];
+    match rt.arg(2, &mut next) {
+        Err(FillError::NotPresent) => same(word, b"--dump"),
+        Err(FillError::TooLong) => false,
+        Ok(_) => false,
     }
 }
 
-fn main(rt: HostRuntime) -> io::Result<()> {
-    let how = mode(&rt)?;
+// 0: no argument; 1: --dump; 2: anything else.
+fn mode(rt: HostRuntime) -> u8 {
+    let mut word = [0u8; 4096];
+    match rt.arg(1, &mut word) {
+        Err(FillError::NotPresent) => 0,
+        Err(FillError::TooLong) => 2,
+        Ok(n) => {
+            if dump_alone(rt, &word[..n]) {
+                return 1;
+            }
+            2
+        }
+    }
+}
+
+// A write that fails is passed over.
+fn say_usage(rt: HostRuntime) {
+    match rt
+        .stderr()
+        .write_all(b"placement_tape: accepted: no argument, or --dump\n")
+    {
+        Ok(()) => {}
+        Err(_) => {}
+    }
+}
+
+fn main(rt: HostRuntime) {
+    let how = mode(rt);
     if how == 2 {
-        return rt
-            .stderr()
-            .write_all(b"placement_tape: accepted: no argument, or --dump\n");
+        say_usage(rt);
+        return;
     }
     let input = rt.stdin();
     let out = rt.stdout();
@@ -42,5 +68,4 @@ fn main(rt: HostRuntime) -> io::Result<()> {
     if how == 1 {
         dump_store(out, store);
     }
-    Ok(())
 }

@@ -134,5 +134,5 @@ count_end l at₀ at n c h = count_none l at₀ at n N.End c (next_end l at h) r
 pub whole_less : (l : List ℕ) (at b m : ℕ) (x : Next) → x ≡ next_at l at → x ≡ N.Whole b m → length l - m < length l - at
 whole_less l at b m x q e = let w = whole l at b m (sym q ∙ e) in omega (arith, w.next, w.inside, w.fits)
 
--- for `search counting` at each need of the loop
+-- for `search counting` at each goal of the loop
 pub ruleset counting = (count_start, count_whole, count_unknown, count_cut, count_none, count_end, whole_less, rules)

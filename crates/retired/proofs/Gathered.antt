@@ -77,7 +77,7 @@ module _ {group n : ℕ} {l : List RetiredReplicaLifetime} where
         let q : retired_numbers group (slice i n l) ≡ [] = ap (retired_numbers group) (no_room_left n l i b) in
         sym (ended_with (take count ids)) ∙ ap (λ (z : List ℕ). take count ids ++ z) (sym q) ∙ s.left
 
--- for `search gathering` at each need of the loop
+-- for `search gathering` at each goal of the loop
 pub ruleset gathering = (length_mapped, gather, taken, passed, all_gathered, room_gathered, rules)
 
 -- ---- a replica is retired in the group exactly where its number is found among them

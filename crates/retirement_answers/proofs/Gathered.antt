@@ -17,5 +17,5 @@ module _ {group n : ℕ} {l : List RetiredReplicaLifetime} {ids : List ℕ} {cou
   pub row_passed : (g ≡ group → ⊥) → G.Gathering group n l ids count (i + 1)
   row_passed q = G.passed s h r (λ z. q (e ∙ z))
 
--- for `search gathering` at each need of the loop but the one that takes a row
+-- for `search gathering` at each goal of the loop but the one that takes a row
 pub ruleset gathering = (length-map, G.gather, row_passed, G.all_gathered, G.room_gathered, rules)

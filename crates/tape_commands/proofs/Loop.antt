@@ -84,6 +84,6 @@ over_done l s₀ at₀ out₀ s at place out k h = runs_end l s₀ at₀ out₀ 
 pub same_now : (l : List ℕ) (s₀ : Store) (at₀ : ℕ) (out₀ : List ℕ) (s : Store) (at place : ℕ) (out : List ℕ) → Stands l s₀ at₀ out₀ s at place out → length out ≡ length out₀
 same_now l s₀ at₀ out₀ s at place out k = k.long
 
--- for `search running` at each need of the loop
+-- for `search running` at each goal of the loop
 pub ruleset running =
     (loop_start, turn_ready, further_on, loop_sound, loop_room, loop_next, unknown_room, cut_room, unknown_done, cut_done, end_done, over_done, same_after, same_now, rules)

@@ -31,5 +31,5 @@ module _ (h : Held) (ns ts ps rs : List (List ℕ)) (b : ℕ) (l : List ℕ) (at
       Taken h ns ts ps rs b l at (record { answer = a; held = r }) ns' ts' ps' rs'
   changed r ns' ts' ps' rs' d = record { stepped = λ i. record { answer = q i; store = d.store i }; all = d.all }
 
--- for `search turning` at each need
+-- for `search turning` at each goal
 pub ruleset turning = (change, kept, changed, rules)

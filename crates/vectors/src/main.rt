@@ -6,7 +6,6 @@ use dump_output::dump_store;
 use input::read_full;
 use metadata::Reported;
 use printing::emit;
-use std::io;
 use std::rt::{Stdin, Stdout};
 
 // Bytes of a name and of a tape, its lines, and their numbers, four for each.
@@ -114,7 +113,7 @@ fn next_size(input: Stdin) -> usize {
 }
 
 // The loop counts its turns down from a number that no input uses up: a proved loop has to end.
-fn main(rt: HostRuntime) -> io::Result<()> {
+fn main(rt: HostRuntime) {
     let input = rt.stdin();
     let out = rt.stdout();
     let mut turns = u64::MAX;
@@ -122,11 +121,10 @@ fn main(rt: HostRuntime) -> io::Result<()> {
         let name = next_size(input);
         let size = next_size(input);
         if (TAPE_ROOM < name) | (TAPE_ROOM < size) {
-            return Ok(());
+            return;
         }
         print_name(input, out, name);
         replay_next(input, out, size);
         turns -= 1;
     }
-    Ok(())
 }
