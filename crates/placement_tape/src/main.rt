@@ -11,6 +11,9 @@ use reports::is_applied;
 use std::env::{Env, FillError};
 use std::io::Print;
 
+// How much of an argument is read; a longer one is not --dump.
+const WORD_ROOM: usize = 4096;
+
 // The word is --dump, and none follows it.
 fn dump_alone(rt: HostRuntime, word: &[u8]) -> bool {
     let mut next = [0u8; 1];
@@ -23,7 +26,7 @@ fn dump_alone(rt: HostRuntime, word: &[u8]) -> bool {
 
 // 0: no argument; 1: --dump; 2: anything else.
 fn mode(rt: HostRuntime) -> u8 {
-    let mut word = [0u8; 4096];
+    let mut word = [0u8; WORD_ROOM];
     match rt.arg(1, &mut word) {
         Err(FillError::NotPresent) => 0,
         Err(FillError::TooLong) => 2,
