@@ -1,11 +1,10 @@
 -- A chunk of the tape, command by command. Assumes nothing.
 use Rattle.std.proofs.Common.{◌≡◌, ℕ, ◌+◌, ◌-◌, ◌%◌, ◌^◌, ◌<◌, ◌≤◌, Bool, true, false, List, [], ◌∷◌, ◌++◌, length, sym, refl, ap, ◌∙◌, subst, ap₂, append_assoc, append-nil, arith, rules}
 use Rattle.laws.proofs.ListLaws.{never}
-use Rattle.lines.specs.Lines.{line_text, Appended}
-use Rattle.lines.proofs.Texts.{joined}
+use Rattle.lines.specs.Lines.{line_text}
 use Rattle.metadata.specs.Answers.{reported}
 use Rattle.metadata.specs.Model.{step}
-use Rattle.metadata.specs.Commands.{Command}
+use Rattle.metadata.specs.declared.Command.{Command}
 use Rattle.metadata.specs.Sound.{sound, entry, run}
 use Rattle.metadata.specs.declared.Answer.{Answer}
 use Rattle.metadata.specs.declared.Answer.TheVariants as A
@@ -16,11 +15,11 @@ use Rattle.metadata.proofs.Theorem.{entry-step, step-sound}
 use Rattle.reading.specs.declared.Next.{Next}
 use Rattle.reading.specs.declared.Next.TheVariants as N
 use Rattle.reading.specs.Reader.{Reading, next_at, read_from, tape_answers, command_at}
-use Rattle.held.specs.Stores.{lent_store}
-use Rattle.held.specs.declared.Held.{Held}
 use Rattle.reading.proofs.Reading.{whole, read_whole, read_end, read_unknown, read_cut, next_end}
-use Rattle.turns.proofs.Places.{further_on, turn_ready}
+use Rattle.reading.proofs.Reading.{whole_less, whole_known, whole_fits}
 use Rattle.chunks.specs.declared.Chunk.{Chunk}
+use Rattle.chunks.specs.declared.Pause.{Pause}
+use Rattle.chunks.specs.declared.Pause.TheVariants as P
 use Rattle.chunks.specs.Chunks.{line_room, next_line, lines_text, line_behind, Fed}
 
 -- ---- one line more
@@ -49,19 +48,19 @@ run_both s (x ∷ cs) ds = run_both (entry s x).store cs ds
 
 -- ---- the loop: what was run so far, and its lines
 
-pub record Feeding (l : List ℕ) (s₀ : Store) (from first : ℕ) (old : List ℕ) (s : Store) (at line used : ℕ) (out : List ℕ) : Type 0 where
+pub record Feeding (l : List ℕ) (s₀ : Store) (from first : ℕ) (old : List ℕ) (s : Store) (at line : ℕ) (out : List ℕ) : Type 0 where
   pub commands : List Command
   pub ran : s ≡ run s₀ commands
   pub first_ones : (read_from l from).commands ≡ commands ++ (read_from l at).commands
   pub done : List Answer
   pub split : tape_answers s₀ (read_from l from) ≡ done ++ tape_answers s (read_from l at)
   pub store : run s₀ (read_from l from).commands ≡ run s (read_from l at).commands
-  pub text : Appended (lines_text first done) old 0 out used
+  pub text : out ≡ old ++ lines_text first done
   pub numbered : line ≡ line_behind first done
   pub sounds : sound s ≡ true
   pub inside : at ≤ length l
 
-pub feed_start : (l : List ℕ) (s₀ : Store) (from first : ℕ) (old : List ℕ) → sound s₀ ≡ true → from ≤ length l → Feeding l s₀ from first old s₀ from first 0 old
+pub feed_start : (l : List ℕ) (s₀ : Store) (from first : ℕ) (old : List ℕ) → sound s₀ ≡ true → from ≤ length l → Feeding l s₀ from first old s₀ from first old
 unfolding lines_text line_behind
 feed_start l s₀ from first old e h =
     record {
@@ -71,40 +70,28 @@ feed_start l s₀ from first old e h =
       done = [];
       split = refl;
       store = refl;
-      text = record { fits = omega arith; bytes = refl; place = refl; long = refl };
+      text = sym (append-nil old);
       numbered = refl;
       sounds = e;
       inside = h;
     }
 
-module _ (l : List ℕ) (s₀ : Store) (from first : ℕ) (old : List ℕ) (s : Store) (at line used : ℕ) (out : List ℕ) (k : Feeding l s₀ from first old s at line used out) where
+module _ (l : List ℕ) (s₀ : Store) (from first : ℕ) (old : List ℕ) (s : Store) (at line : ℕ) (out : List ℕ) (k : Feeding l s₀ from first old s at line out) where
   pub feed_sound : sound s ≡ true
   feed_sound = k.sounds
 
-  pub feed_used : used ≤ length out
-  feed_used = omega (arith, k.text.fits, k.text.place, k.text.long)
-
-  pub feed_room : line_room ≤ length out - used → used + 105 ≤ length out
-  feed_room h = omega (arith, feed_used)
-
-  pub feed_long : length out ≡ length old
-  feed_long = k.text.long
-
-  pub feed_long_after : (new : List ℕ) (n : ℕ) (text : List ℕ) → Appended text out used new n → length new ≡ length old
-  feed_long_after new n text a = a.long ∙ k.text.long
-
   -- the line of one more answer
-  line_more : (a : Answer) (r : Reported) (new : List ℕ) (n : ℕ) → r ≡ reported a → Appended (line_text line r) out used new n →
-      Appended (lines_text first (k.done ++ a ∷ [])) old 0 new n
-  line_more a r new n e p =
-      subst (λ (t : List ℕ). Appended t old 0 new n) (lines_more first k.done a)
-      (joined (lines_text first k.done) (line_text (line_behind first k.done) (reported a)) old 0 out used new n k.text
-      (subst (λ (t : List ℕ). Appended t out used new n) (ap₂ line_text k.numbered e) p))
+  line_more : (a : Answer) (r : Reported) (new : List ℕ) → r ≡ reported a → new ≡ out ++ line_text line r → new ≡ old ++ lines_text first (k.done ++ a ∷ [])
+  line_more a r new e p =
+      p
+      ∙ ap₂ (λ (o t : List ℕ). o ++ t) k.text (ap₂ line_text k.numbered e)
+      ∙ append_assoc old (lines_text first k.done) (line_text (line_behind first k.done) (reported a))
+      ∙ ap (λ (t : List ℕ). old ++ t) (lines_more first k.done a)
 
-  pub feed_next : (x : Next) (b m : ℕ) → x ≡ next_at l at → x ≡ N.Whole b m → (a : Answer) (s' : Store) (r : Reported) (new : List ℕ) (n line' : ℕ) →
-      ◌≡◌ {A = Answered} (record { answer = a; store = s' }) (step s (command_at b l (at + 1))) → r ≡ reported a → Appended (line_text line r) out used new n → line' ≡ (line + 1) % 2 ^ 64 →
-      Feeding l s₀ from first old s' m line' n new
-  feed_next x b m q e a s' r new n line' d p g z =
+  pub feed_next : (x : Next) (b m : ℕ) → x ≡ next_at l at → x ≡ N.Whole b m → (a : Answer) (s' : Store) (r : Reported) (new : List ℕ) (line' : ℕ) →
+      ◌≡◌ {A = Answered} (record { answer = a; store = s' }) (step s (command_at b l (at + 1))) → r ≡ reported a → new ≡ out ++ line_text line r → line' ≡ (line + 1) % 2 ^ 64 →
+      Feeding l s₀ from first old s' m line' new
+  feed_next x b m q e a s' r new line' d p g z =
       record {
         commands = k.commands ++ command_at b l (at + 1) ∷ [];
         ran =
@@ -121,25 +108,25 @@ module _ (l : List ℕ) (s₀ : Store) (from first : ℕ) (old : List ℕ) (s : 
         store =
             k.store ∙ ap (λ (t : Reading). run s t.commands) (read_whole l at b m (sym q ∙ e))
             ∙ ap (λ (t : Answered). run t.store (read_from l m).commands) (entry-step s (command_at b l (at + 1)) k.sounds ∙ sym d);
-        text = line_more a r new n p g;
+        text = line_more a r new p g;
         numbered = z ∙ ap next_line k.numbered ∙ behind_more first k.done a;
         sounds = subst (λ (t : Answered). sound t.store ≡ true) (sym d) (step-sound s (command_at b l (at + 1)) k.sounds);
         inside = (whole l at b m (sym q ∙ e)).fits;
       }
 
--- ---- the ways out: h and the rows are what is held, c what the code gives
+-- ---- the ways out: s is the store, c what the code gives
 
-module _ (l : List ℕ) (s₀ : Store) (from first : ℕ) (old : List ℕ) (h : Held) (ns ts ps rs : List (List ℕ)) (at line used : ℕ) (out : List ℕ)
-    (k : Feeding l s₀ from first old (lent_store h ns ts ps rs) at line used out) (c : Chunk) where
+module _ (l : List ℕ) (s₀ : Store) (from first : ℕ) (old : List ℕ) (s : Store) (at line room : ℕ) (out : List ℕ)
+    (k : Feeding l s₀ from first old s at line out) (c : Chunk) where
   abbrev Left : Chunk → List ℕ → Type 0
-  Left x new = Fed l s₀ from first old x (lent_store x.held ns ts ps rs) new
+  Left x new = Fed room l s₀ from first old x s new
 
-  abbrev stand : ℕ → Bool → Bool → Chunk
-  stand n s f = record { held = h; at = at; line = line; used = n; stopped = s; full = f }
+  abbrev stand : Pause → Chunk
+  stand p = record { at = at; line = line; pause = p }
 
   -- the output is full
-  pub feed_full : c ≡ stand used false true → length out - used < line_room → Left c out
-  feed_full f j =
+  pub feed_full : c ≡ stand P.Full → room - length out < line_room → length out ≤ room → Left c out
+  feed_full f j h =
       subst (λ (x : Chunk). Left x out) (sym f)
       (record {
         commands = k.commands;
@@ -152,14 +139,14 @@ module _ (l : List ℕ) (s₀ : Store) (from first : ℕ) (old : List ℕ) (h : 
         line = λ e. k.numbered;
         sounds = k.sounds;
         inside = k.inside;
-        room = λ e. omega (arith, k.text.long);
+        room_left = λ e. omega arith;
         all = λ e. absurd (never true refl e);
         byte = 0;
         stops = λ e. absurd (never false e refl);
       })
 
   -- no whole command is left
-  none_left : c ≡ stand used false false → (read_from l at).commands ≡ [] → Left c out
+  none_left : c ≡ stand P.Short → (read_from l at).commands ≡ [] → Left c out
   none_left f q =
       subst (λ (x : Chunk). Left x out) (sym f)
       (record {
@@ -173,24 +160,24 @@ module _ (l : List ℕ) (s₀ : Store) (from first : ℕ) (old : List ℕ) (h : 
         line = λ e. k.numbered;
         sounds = k.sounds;
         inside = k.inside;
-        room = λ e. absurd (never false e refl);
+        room_left = λ e. absurd (never false e refl);
         all = λ e. q;
         byte = 0;
         stops = λ e. absurd (never false e refl);
       })
 
-  pub feed_over : c ≡ stand used false false → length l ≤ at → Left c out
+  pub feed_over : c ≡ stand P.Short → length l ≤ at → Left c out
   feed_over f j = none_left f (ap (λ (r : Reading). r.commands) (read_end l at (sym (next_end l at j))))
 
   module _ (x : Next) (q : x ≡ next_at l at) where
-    pub feed_cut : c ≡ stand used false false → (b : ℕ) → x ≡ N.Cut b → Left c out
+    pub feed_cut : c ≡ stand P.Short → (b : ℕ) → x ≡ N.Cut b → Left c out
     feed_cut f b e = none_left f (ap (λ (r : Reading). r.commands) (read_cut l at b (sym q ∙ e)))
 
-    pub feed_end : c ≡ stand used false false → x ≡ N.End → Left c out
+    pub feed_end : c ≡ stand P.Short → x ≡ N.End → Left c out
     feed_end f e = none_left f (ap (λ (r : Reading). r.commands) (read_end l at (sym q ∙ e)))
 
-    pub feed_unknown : (b : ℕ) (r : Reported) (new : List ℕ) (n : ℕ) → c ≡ stand n true false → x ≡ N.Unknown b → r ≡ reported (A.BadTape 1 b) → Appended (line_text line r) out used new n → Left c new
-    feed_unknown b r new n f e p a =
+    pub feed_unknown : (b : ℕ) (r : Reported) (new : List ℕ) → c ≡ stand P.Stopped → x ≡ N.Unknown b → r ≡ reported (A.BadTape 1 b) → new ≡ out ++ line_text line r → Left c new
+    feed_unknown b r new f e p a =
         let w = read_unknown l at b (sym q ∙ e) in
         subst (λ (x : Chunk). Left x new) (sym f)
         (record {
@@ -198,13 +185,13 @@ module _ (l : List ℕ) (s₀ : Store) (from first : ℕ) (old : List ℕ) (h : 
           ran = k.ran;
           first_ones = k.first_ones;
           done = k.done ++ A.BadTape 1 b ∷ [];
-          split = k.split ∙ ap (λ (y : Reading). k.done ++ tape_answers (lent_store h ns ts ps rs) y) w ∙ sym (append-nil (k.done ++ A.BadTape 1 b ∷ []));
+          split = k.split ∙ ap (λ (y : Reading). k.done ++ tape_answers s y) w ∙ sym (append-nil (k.done ++ A.BadTape 1 b ∷ []));
           store = k.store;
-          text = line_more l s₀ from first old (lent_store h ns ts ps rs) at line used out k (A.BadTape 1 b) r new n p a;
+          text = line_more l s₀ from first old s at line out k (A.BadTape 1 b) r new p a;
           line = λ e. absurd (never true refl e);
           sounds = k.sounds;
           inside = k.inside;
-          room = λ e. absurd (never false e refl);
+          room_left = λ e. absurd (never false e refl);
           all = λ e. ap (λ (y : Reading). y.commands) w;
           byte = b;
           stops = λ z. sym q ∙ e;
@@ -212,4 +199,4 @@ module _ (l : List ℕ) (s₀ : Store) (from first : ℕ) (old : List ℕ) (h : 
 
 -- for `search feeding` at each goal of the loop
 pub ruleset feeding =
-    (feed_start, feed_sound, feed_used, feed_room, feed_long, feed_long_after, turn_ready, further_on, feed_next, feed_full, feed_over, feed_cut, feed_end, feed_unknown, rules)
+    (feed_start, feed_sound, whole_known, whole_fits, whole_less, feed_next, feed_full, feed_over, feed_cut, feed_end, feed_unknown, rules)

@@ -1,2 +1,2 @@
-pub mod Places
-pub mod Counted
+-- The laws that belong to no one function. Assumes nothing.
+pub mod Text

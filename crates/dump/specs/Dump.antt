@@ -1,18 +1,15 @@
 -- The final tables and marks as text, a line for each row. "Rows rising by id, a text or key as `=` and its bytes in lower-case hexadecimal,
 -- `-` where absent." Each line ends in the byte 10. Assumes nothing.
 use Rattle.std.specs.Prelude.{ℕ, List, [], ◌∷◌, ◌++◌, map}
+use Rattle.std.specs.List.{concat}
 use Rattle.row_lines.specs.RowLines.{node_line, table_line, tablet_line, retired_line}
-use Rattle.placement_lines.specs.PlacementLines.{placement_line}
+use Rattle.row_lines.specs.PlacementLines.{placement_line}
+use Rattle.row_lines.specs.StoreLines.{name_line, marks_line, next_line, pick_line}
 use Rattle.metadata.specs.Labels.{select_initial_placement}
 use Rattle.metadata.specs.Model.{view_nodes, view_tables, view_tablets, view_placements, view_retirements}
 use Rattle.metadata.specs.Tablets.{is_complete}
 use Rattle.metadata.specs.declared.TableRow.{TableRow}
 use Rattle.metadata.specs.declared.Store.{Store}
-use Rattle.store_lines.specs.StoreLines.{name_line, marks_line, next_line, pick_line}
-
--- room for every line: the longest, a placement line, has at most 811 bytes
-abbrev pub line_room : ℕ
-line_room = 1024
 
 -- a line for each node
 abbrev pub node_lines : Store → List (List ℕ)
@@ -39,29 +36,20 @@ abbrev pub retired_lines : Store → List (List ℕ)
 retired_lines s = map retired_line (view_retirements s.catalog.retirements)
 
 -- the last three lines: the marks, the next replica and the first choice
-unfoldable pub from_marks : Store → List (List ℕ)
-from_marks s = marks_line s.catalog.marks ∷ next_line s.catalog.marks ∷ pick_line (select_initial_placement (view_nodes s.directory.nodes)) ∷ []
-
--- the lines from the retired replicas on
-unfoldable pub from_retired : Store → List (List ℕ)
-from_retired s = retired_lines s ++ from_marks s
-
--- the lines from the placements on
-unfoldable pub from_placements : Store → List (List ℕ)
-from_placements s = placement_lines s ++ from_retired s
-
--- the lines from the tablets on
-unfoldable pub from_tablets : Store → List (List ℕ)
-from_tablets s = tablet_lines s ++ from_placements s
-
--- the lines from the tables on
-unfoldable pub from_tables : Store → List (List ℕ)
-from_tables s = table_lines s ++ from_tablets s
-
--- the lines from the nodes on
-unfoldable pub from_nodes : Store → List (List ℕ)
-from_nodes s = node_lines s ++ from_tables s
+abbrev pub last_lines : Store → List (List ℕ)
+last_lines s = marks_line s.catalog.marks ∷ next_line s.catalog.marks ∷ pick_line (select_initial_placement (view_nodes s.directory.nodes)) ∷ []
 
 -- all lines, from the first to the last: the name, nodes, tables, tablets, placements, retired replicas, and the last three
 unfoldable pub dump_lines : Store → List (List ℕ)
-dump_lines s = name_line s.directory.cluster_id ∷ from_nodes s
+dump_lines s =
+    name_line s.directory.cluster_id
+    ∷ node_lines s
+    ++ table_lines s
+    ++ tablet_lines s
+    ++ placement_lines s
+    ++ retired_lines s
+    ++ last_lines s
+
+-- the lines, one behind the other
+abbrev pub dump_text : Store → List ℕ
+dump_text s = concat (dump_lines s)

@@ -1,3 +1,2 @@
--- The definitions that this crate adds to those of `metadata`. Assumes nothing.
-pub mod Feeding
+-- The definitions that the contracts cite.
 pub mod Told

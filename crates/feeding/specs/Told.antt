@@ -1,7 +1,7 @@
 -- Demand 3 of the program: what the history says of commands that lead to the store that its run leaves. Assumes nothing.
 use Rattle.std.specs.Prelude.{ℕ, List}
 use Rattle.metadata.specs.Claims.{Claims}
-use Rattle.metadata.specs.Commands.{Command}
+use Rattle.metadata.specs.declared.Command.{Command}
 use Rattle.metadata.specs.History.{begun}
 use Rattle.metadata.specs.Opening.{opening}
 use Rattle.metadata.specs.Sound.{answers}

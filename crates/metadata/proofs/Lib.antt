@@ -1,5 +1,4 @@
 pub mod AnswerLaws
-pub mod Ranges
 pub mod Guards
 pub mod AdmittedRows
 pub mod Soundness
@@ -17,3 +16,4 @@ pub mod Theorem
 pub mod Trials
 pub mod Samples
 pub mod Judging
+pub mod Each

@@ -29,7 +29,8 @@ use Rattle.metadata.specs.Tables.{
   zero_placement,
   zero_retirement,
 }
-use Rattle.metadata.specs.Model.{StoreRows, DirectoryRows, CatalogRows, padded, view, view_directory, view_catalog, pack, pack_directory, pack_catalog}
+use Rattle.metadata.specs.Model.{StoreRows, DirectoryRows, CatalogRows, view, view_directory, view_catalog, pack, pack_directory, pack_catalog}
+use Rattle.table.specs.Tables.{padded}
 use Rattle.metadata.specs.Sound.{sound_node, sound_tablet, sound_placement, sound_marks, sound_directory, sound_catalog, sound}
 use Rattle.metadata.specs.declared.TabletDescriptor.{TabletDescriptor}
 use Rattle.metadata.specs.declared.TableRow.{TableRow}

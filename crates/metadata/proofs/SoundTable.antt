@@ -16,8 +16,8 @@ use Rattle.laws.proofs.Every.{clear_padded, padded_clear}
 use Rattle.laws.proofs.KeyedLaws.{rising_true, rising_pass}
 use Rattle.laws.proofs.Packed.{Packed, packed}
 use Rattle.laws.proofs.Tests.{each_of, all_of_lem}
-use Rattle.metadata.specs.Model.{padded}
-use Rattle.metadata.specs.Sound.{sound_table}
+use Rattle.table.specs.Tables.{padded}
+use Rattle.table.specs.Tables.{sound_table}
 
 module _ {A : Type 0} (T : Keyed A) (isZeroRow : A → Bool) (z : A) (room count : ℕ) (rows : List A) where
   abbrev tests : List Bool

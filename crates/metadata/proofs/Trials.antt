@@ -1,4 +1,5 @@
 -- P1 to P12 of document 01's trials at the boundaries, as one theorem over one list, about the definitions: `trials_right`. Assumes nothing.
+use Rattle.text.specs.Texts as W
 use Prim.Native.Nat.{ℕ, ◌+◌, ◌-◌}
 use mathlib.Core.Path.{◌≡◌, refl}
 use mathlib.Core.Bool.{Bool, true, false, cond, ◌&&◌, beq}
@@ -6,14 +7,15 @@ use mathlib.Core.List.{List, [], ◌∷◌, ◌++◌}
 use lib.Dec.{eqb}
 use lib.ListN.{length, replicate}
 use Rattle.laws.specs.Bytes.{eq_bytes}
-use Rattle.laws.specs.Lists.{any, tally, none_twice}
+use Rattle.laws.specs.Lists.{tally, none_twice}
 use Rattle.laws.specs.Tests.{all_of}
 use Rattle.metadata.specs.Rooms.{name_width, label_width, replica_room}
-use Rattle.metadata.specs.Texts.{fits, text_admitted, blank, same_text, same_optional, optional_admitted, optional_fits, is_zero_text, all_zero, zero_key, no_label}
-use Rattle.metadata.specs.Ranges.{lex_leb, overlapb, later_start}
-use Rattle.metadata.specs.Labels.{shares_label, new_label, distinct, regions, zones, racks, locality_gain, better, candidate, step_best, best_of, choose_from, choose, judge_picking}
-use Rattle.metadata.specs.Answers.{reported, report, is_applied, ◌⊳◌, refuse, each}
-use Rattle.metadata.specs.Tables.{same_node_directory, same_node, same_partition, same_tablet, same_replica, same_list, same_policy, same_placement, zero_replica}
+use Rattle.metadata.specs.Texts.{zero_key, no_label}
+use Rattle.text.specs.Texts.{fits, text_admitted, blank, same_text, is_zero_text, all_zero}
+use Rattle.text.specs.Ranges.{lex_leb, overlapb, later_start}
+use Rattle.metadata.specs.Labels.{new_label, distinct, regions, zones, racks, locality_gain, better, candidate, step_best, best_of, choose_from, choose, judge_picking}
+use Rattle.metadata.specs.Answers.{and_then, reported, report, is_applied, refuse, each}
+use Rattle.metadata.specs.Tables.{same_node_directory, same_node, same_partition, same_tablet, same_policy, same_placement, zero_replica}
 use Rattle.metadata.specs.Commands.{Command, naming, registering, lifecycle, tablet, placement, lowest, node_texts_admitted, partition_admitted, replicas_admitted, minima_admitted, leaders_admitted, class_blank}
 use Rattle.metadata.specs.Nodes.{
   judge_naming,
@@ -45,8 +47,8 @@ use Rattle.metadata.specs.Placements.{
 use Rattle.metadata.specs.Model.{StoreRows, admission, decided, decide, apply}
 use Rattle.metadata.specs.Opening.{sorted_tables, starting_marks, empty_rows}
 use Rattle.metadata.specs.declared.Reported.{Reported}
-use Rattle.metadata.specs.declared.Name.{Name}
-use Rattle.metadata.specs.declared.OptionalLabel.{OptionalLabel}
+use Rattle.metadata.specs.Texts.{Name}
+use Rattle.metadata.specs.Texts.{OptionalLabel}
 use Rattle.metadata.specs.declared.NodeDescriptor.{NodeDescriptor}
 use Rattle.metadata.specs.declared.TabletDescriptor.{TabletDescriptor}
 use Rattle.metadata.specs.declared.DesiredReplica.{DesiredReplica}
@@ -198,5 +200,5 @@ trials =
     ∷ []
 
 pub trials_right : all_right trials ≡ true
-unfolding any tally none_twice all_of fits text_admitted blank same_text same_optional optional_admitted optional_fits is_zero_text all_zero lex_leb shares_label new_label distinct locality_gain better candidate step_best best_of choose_from judge_picking ◌⊳◌ refuse each same_node_directory same_node same_partition same_tablet same_replica same_list same_policy same_placement lowest node_texts_admitted partition_admitted replicas_admitted minima_admitted leaders_admitted class_blank judge_naming lifecycle_can_advance still_expected judge_lifecycle clash_fields clash judge_new_node judge_known_node judge_registering moved_nodes registered_nodes judge_hash judge_range judge_new_tablet judge_tablet is_replica_retired stands_already eligible class_differs judge_replica judge_leader judge_domains judge_epoch kept_replica judge_kept_replicas judge_new_placement judge_placement admission decided sorted_tables starting_marks
+unfolding tally none_twice all_of fits text_admitted blank same_text W.same_optional W.optional_admitted W.optional_fits is_zero_text all_zero lex_leb W.shares_text new_label distinct locality_gain better candidate step_best best_of choose_from judge_picking and_then refuse each same_node_directory same_node same_partition same_tablet same_policy same_placement lowest node_texts_admitted partition_admitted replicas_admitted minima_admitted leaders_admitted class_blank judge_naming lifecycle_can_advance still_expected judge_lifecycle clash_fields clash judge_new_node judge_known_node judge_registering moved_nodes registered_nodes judge_hash judge_range judge_new_tablet judge_tablet is_replica_retired stands_already eligible class_differs judge_replica judge_leader judge_domains judge_epoch kept_replica judge_kept_replicas judge_new_placement judge_placement admission decided sorted_tables starting_marks
 trials_right = refl

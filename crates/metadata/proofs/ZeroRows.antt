@@ -13,7 +13,8 @@ use Rattle.laws.proofs.ListLaws.{and_both}
 use Rattle.laws.proofs.Tests.{each_of}
 use Rattle.laws.specs.Tests.{all_of}
 use Rattle.metadata.specs.Rooms.{name_width, label_width, key_width, replica_room}
-use Rattle.metadata.specs.Texts.{all_zero, is_zero_text, is_no_label, zero_name, zero_label, zero_key, no_label}
+use Rattle.metadata.specs.Texts.{is_no_label, zero_name, zero_label, zero_key, no_label}
+use Rattle.text.specs.Texts.{all_zero, is_zero_text}
 use Rattle.metadata.specs.Tables.{
   is_zero_name,
   is_zero_replica,
@@ -32,10 +33,10 @@ use Rattle.metadata.specs.Tables.{
   zero_retirement,
 }
 use Rattle.metadata.specs.declared.NodeId.{NodeId}
-use Rattle.metadata.specs.declared.Name.{Name}
-use Rattle.metadata.specs.declared.Label.{Label}
-use Rattle.metadata.specs.declared.Key.{Key}
-use Rattle.metadata.specs.declared.OptionalLabel.{OptionalLabel}
+use Rattle.metadata.specs.Texts.{Name}
+use Rattle.metadata.specs.Texts.{Label}
+use Rattle.metadata.specs.Texts.{Key}
+use Rattle.metadata.specs.Texts.{OptionalLabel}
 use Rattle.metadata.specs.declared.NodeDescriptor.{NodeDescriptor}
 use Rattle.metadata.specs.declared.TabletDescriptor.{TabletDescriptor}
 use Rattle.metadata.specs.declared.DesiredReplica.{DesiredReplica}
@@ -83,9 +84,9 @@ no_label_lem t e =
 
 zero_replica_lem : (r : DesiredReplica) → is_zero_replica r ≡ true → r ≡ zero_replica
 zero_replica_lem r e =
-    let g = and_both (is_zero r.replica_id.0 && is_zero r.node_id.0) (is_zero r.role) e in
-    let h = and_both (is_zero r.replica_id.0) (is_zero r.node_id.0) g.0 in
-    λ i. record { replica_id = record { 0 = zero_number r.replica_id.0 h.0 i }; node_id = record { 0 = zero_number r.node_id.0 h.1 i }; role = zero_number r.role g.1 i }
+    let g = and_both (is_zero r.replica_id.0) (is_zero r.node_id.0 && is_zero r.role) e in
+    let h = and_both (is_zero r.node_id.0) (is_zero r.role) g.1 in
+    λ i. record { replica_id = record { 0 = zero_number r.replica_id.0 g.0 i }; node_id = record { 0 = zero_number r.node_id.0 h.0 i }; role = zero_number r.role h.1 i }
 
 zero_id : (n : NodeId) → is_zero_id n ≡ true → n ≡ record { 0 = 0 }
 zero_id n e = λ i. record { 0 = zero_number n.0 e i }

@@ -3,7 +3,7 @@ use Rattle.std.specs.Prelude.{ℕ, ◌≤◌, ◌≡◌, Bool, true, false, List
 use Rattle.laws.specs.Keyed.{has}
 use Rattle.laws.specs.Lists.{All, Apart}
 use Rattle.metadata.specs.Texts.{key_text}
-use Rattle.metadata.specs.Ranges.{in_rangeb}
+use Rattle.text.specs.Ranges.{in_rangeb}
 use Rattle.metadata.specs.Tables.{node_key, tablet_key, node_of, tablet_of, desired}
 use Rattle.metadata.specs.Commands.{Command}
 use Rattle.metadata.specs.Tablets.{is_range, is_replica_retired}

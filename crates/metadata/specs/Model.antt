@@ -1,7 +1,7 @@
 -- The model: what each command is answered and what an Applied one does, on the tables as lists of rows; and a step of the store. Assumes nothing.
-use Rattle.std.specs.Prelude.{ℕ, ◌-◌, max, true, not, cond, ◌&&◌, List, ◌++◌, eqb, length, take, replicate}
+use Rattle.std.specs.Prelude.{ℕ, max, true, not, cond, ◌&&◌, List, eqb, take}
 use Rattle.laws.specs.Keyed.{put}
-use Rattle.metadata.specs.Rooms.{node_room, table_room, tablet_room, retirement_room}
+use Rattle.table.specs.Tables.{pack as pack_table}
 use Rattle.metadata.specs.Marks.{highest}
 use Rattle.metadata.specs.Answers.{is_applied, ◌⊳◌, refuse}
 use Rattle.metadata.specs.Tables.{tablet_key, placement_key, retirement_key, desired, zero_node, zero_table, zero_tablet, zero_placement, zero_retirement}
@@ -13,7 +13,7 @@ use Rattle.metadata.specs.Placements.{judge_placement}
 use Rattle.metadata.specs.declared.Answer.{Answer}
 use Rattle.metadata.specs.declared.Answer.TheVariants as A
 use Rattle.metadata.specs.declared.Answered.{Answered}
-use Rattle.metadata.specs.declared.OptionalName.{OptionalName}
+use Rattle.metadata.specs.Texts.{OptionalName}
 use Rattle.metadata.specs.declared.NodeDescriptor.{NodeDescriptor}
 use Rattle.metadata.specs.declared.TabletDescriptor.{TabletDescriptor}
 use Rattle.metadata.specs.declared.DesiredReplica.{DesiredReplica}
@@ -21,11 +21,11 @@ use Rattle.metadata.specs.declared.DesiredReplicaPlacement.{DesiredReplicaPlacem
 use Rattle.metadata.specs.declared.RetiredReplicaLifetime.{RetiredReplicaLifetime}
 use Rattle.metadata.specs.declared.TableRow.{TableRow}
 use Rattle.metadata.specs.declared.MetadataAllocatorState.{MetadataAllocatorState}
-use Rattle.metadata.specs.declared.Nodes.{Nodes}
-use Rattle.metadata.specs.declared.Tables.{Tables}
-use Rattle.metadata.specs.declared.Tablets.{Tablets}
-use Rattle.metadata.specs.declared.Placements.{Placements}
-use Rattle.metadata.specs.declared.Retirements.{Retirements}
+use Rattle.metadata.specs.Tables.{Nodes}
+use Rattle.metadata.specs.Tables.{Tables}
+use Rattle.metadata.specs.Tables.{Tablets}
+use Rattle.metadata.specs.Tables.{Placements}
+use Rattle.metadata.specs.Tables.{Retirements}
 use Rattle.metadata.specs.declared.Directory.{Directory}
 use Rattle.metadata.specs.declared.Catalog.{Catalog}
 use Rattle.metadata.specs.declared.Store.{Store}
@@ -118,23 +118,20 @@ apply s picking = s
 
 -- ---- the store: the tables at their fixed room, rows past the count zero
 
-abbrev pub padded : {A : Type 0} → A → ℕ → List A → List A
-padded zeroRow room l = l ++ replicate (room - length l) zeroRow
-
 abbrev pub pack_nodes : List NodeDescriptor → Nodes
-pack_nodes l = record { count = length l; rows = padded zero_node node_room l }
+pack_nodes l = pack_table zero_node l
 
 abbrev pub pack_tables : List TableRow → Tables
-pack_tables l = record { count = length l; rows = padded zero_table table_room l }
+pack_tables l = pack_table zero_table l
 
 abbrev pub pack_tablets : List TabletDescriptor → Tablets
-pack_tablets l = record { count = length l; rows = padded zero_tablet tablet_room l }
+pack_tablets l = pack_table zero_tablet l
 
 abbrev pub pack_placements : List DesiredReplicaPlacement → Placements
-pack_placements l = record { count = length l; rows = padded zero_placement tablet_room l }
+pack_placements l = pack_table zero_placement l
 
 abbrev pub pack_retirements : List RetiredReplicaLifetime → Retirements
-pack_retirements l = record { count = length l; rows = padded zero_retirement retirement_room l }
+pack_retirements l = pack_table zero_retirement l
 
 abbrev pub pack_directory : DirectoryRows → Directory
 pack_directory d = record { cluster_id = d.name; nodes = pack_nodes d.nodes }

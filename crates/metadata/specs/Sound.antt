@@ -1,10 +1,9 @@
 -- Reason 12: what document 01 lists of a store, as a test; and what an entry point answers. Assumes nothing.
 -- "A store over this room, its rows not rising, with a node twice in one placement, with padding not zero, or with a mark below
 -- a table, tablet, group or desired replica id, gets 10, reason 12, before all else."
-use Rattle.std.specs.Prelude.{ℕ, Bool, cond, List, [], ◌∷◌, leb, eqb, length, take, drop}
-use Rattle.laws.specs.Keyed.{Keyed, before}
+use Rattle.std.specs.Prelude.{ℕ, Bool, cond, List, [], ◌∷◌, leb, drop}
 use Rattle.laws.specs.Lists.{every, none_twice}
-use Rattle.laws.specs.Rows.{rising}
+use Rattle.table.specs.Tables.{sound_table}
 use Rattle.laws.specs.Tests.{all_of}
 use Rattle.metadata.specs.Rooms.{node_room, table_room, tablet_room, retirement_room, replica_room}
 use Rattle.metadata.specs.Texts.{name_fits, label_fits, key_fits, optional_fits, optional_name_fits}
@@ -70,12 +69,6 @@ sound_placement p =
     ∷ none_twice same_host (desired p)
     ∷ sound_policy p.placement_policy
     ∷ [])
-
--- ---- a table: its count within the room, its rows rising, the rows past the count zero
-
-unfoldable pub sound_table : {A : Type 0} → Keyed A → (A → Bool) → ℕ → ℕ → List A → Bool
-sound_table key isZeroRow room count rows =
-    all_of (eqb (length rows) room ∷ leb count room ∷ rising (before key) (take count rows) ∷ every isZeroRow (drop count rows) ∷ [])
 
 -- ---- marks
 

@@ -1,27 +1,14 @@
 -- The rows of each table: their keys, what they list, when two are the same, and the zero rows. Assumes nothing.
-use Rattle.std.specs.Prelude.{ℕ, Bool, true, false, ◌&&◌, List, [], ◌∷◌, eqb, take, replicate}
+use lib.Pointwise.{pointwise}
+use Rattle.std.specs.Prelude.{ℕ, Bool, ◌&&◌, List, [], ◌∷◌, eqb, take, replicate}
 use Rattle.laws.specs.Bytes.{is_zero}
 use Rattle.laws.specs.Keyed.{Keyed, by_number, by_pair, row}
 use Rattle.laws.specs.Tests.{all_of}
-use Rattle.metadata.specs.Rooms.{replica_room, name_width, label_width, key_width}
-use Rattle.metadata.specs.Texts.{
-  same_name,
-  same_label,
-  same_key,
-  same_optional,
-  all_zero,
-  is_zero_text,
-  is_no_label,
-  zero_name,
-  zero_label,
-  zero_key,
-  no_label,
-  blank_name,
-  blank_label,
-  blank_key,
-  blank_optional,
-}
-use Rattle.metadata.specs.declared.Name.{Name}
+use Rattle.table.specs.declared.Table.{Table}
+use Rattle.metadata.specs.Rooms.{node_room, table_room, tablet_room, retirement_room, replica_room, name_width, label_width, key_width}
+use Rattle.metadata.specs.Texts.{same_name, same_label, same_key, same_optional, is_no_label, zero_name, zero_label, zero_key, no_label, blank_name, blank_label, blank_key, blank_optional}
+use Rattle.text.specs.Texts.{all_zero, is_zero_text}
+use Rattle.metadata.specs.Texts.{Name}
 use Rattle.metadata.specs.declared.NodeId.{NodeId}
 use Rattle.metadata.specs.declared.NodeDescriptor.{NodeDescriptor}
 use Rattle.metadata.specs.declared.PartitionSpec.{PartitionSpec}
@@ -31,6 +18,23 @@ use Rattle.metadata.specs.declared.PlacementPolicy.{PlacementPolicy}
 use Rattle.metadata.specs.declared.DesiredReplicaPlacement.{DesiredReplicaPlacement}
 use Rattle.metadata.specs.declared.RetiredReplicaLifetime.{RetiredReplicaLifetime}
 use Rattle.metadata.specs.declared.TableRow.{TableRow}
+
+-- ---- one table for each kind of row
+
+abbrev pub Nodes : Type 0
+Nodes = Table NodeDescriptor node_room
+
+abbrev pub Tables : Type 0
+Tables = Table TableRow table_room
+
+abbrev pub Tablets : Type 0
+Tablets = Table TabletDescriptor tablet_room
+
+abbrev pub Placements : Type 0
+Placements = Table DesiredReplicaPlacement tablet_room
+
+abbrev pub Retirements : Type 0
+Retirements = Table RetiredReplicaLifetime retirement_room
 
 -- ---- keys: rows rise by them
 
@@ -104,15 +108,12 @@ same_tablet a b =
     ∷ same_partition a.partition b.partition
     ∷ [])
 
-unfoldable pub same_replica : DesiredReplica → DesiredReplica → Bool
-same_replica a b = all_of (eqb a.replica_id.0 b.replica_id.0 ∷ eqb a.node_id.0 b.node_id.0 ∷ eqb a.role b.role ∷ [])
+abbrev pub same_replica : DesiredReplica → DesiredReplica → Bool
+same_replica a b = eqb a.replica_id.0 b.replica_id.0 && (eqb a.node_id.0 b.node_id.0 && eqb a.role b.role)
 
 -- as many, and the same in each place
-unfoldable pub same_list : {A : Type 0} → (A → A → Bool) → List A → List A → Bool
-same_list same [] [] = true
-same_list same [] (y ∷ m) = false
-same_list same (x ∷ l) [] = false
-same_list same (x ∷ l) (y ∷ m) = same x y && same_list same l m
+abbrev pub same_list : {A : Type 0} → (A → A → Bool) → List A → List A → Bool
+same_list same l m = pointwise same l m
 
 unfoldable pub same_policy : PlacementPolicy → PlacementPolicy → Bool
 same_policy a b =
@@ -212,7 +213,7 @@ abbrev pub is_zero_name : Name → Bool
 is_zero_name t = is_zero_text name_width t.len t.bytes
 
 abbrev pub is_zero_replica : DesiredReplica → Bool
-is_zero_replica r = is_zero r.replica_id.0 && is_zero r.node_id.0 && is_zero r.role
+is_zero_replica r = is_zero r.replica_id.0 && (is_zero r.node_id.0 && is_zero r.role)
 
 abbrev pub is_zero_id : NodeId → Bool
 is_zero_id n = is_zero n.0

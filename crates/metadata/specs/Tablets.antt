@@ -4,7 +4,7 @@ use Rattle.laws.specs.Keyed.{has, row}
 use Rattle.laws.specs.Lists.{any, tally}
 use Rattle.metadata.specs.Rooms.{tablet_room, retirement_room}
 use Rattle.metadata.specs.Texts.{key_text}
-use Rattle.metadata.specs.Ranges.{overlapb}
+use Rattle.text.specs.Ranges.{overlapb}
 use Rattle.metadata.specs.Answers.{◌⊳◌, refuse, each}
 use Rattle.metadata.specs.Tables.{
   table_key,

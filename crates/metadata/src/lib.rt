@@ -3,6 +3,15 @@
 ghost use Rattle.std.specs.Prelude.{◌≡◌};
 ghost use Rattle.metadata.specs.Marks.{initial_marks, next_replica_id};
 
+mod answers;
+mod lifecycle;
+mod rows;
+
+pub use lifecycle::NodeLifecycle;
+pub use rows::ReplicaKey;
+use table::Table;
+use text::{Optional, Text};
+
 // The tables of the metadata store: who holds what. Types carry the names of the Rust source where it has one.
 // The rooms: document 01, "Room and admission". specs/Rooms.antt names them once more.
 pub const NODE_ROOM: usize = 32;
@@ -23,53 +32,31 @@ pub const KEY_WIDTH: usize = 32;
 // select_initial_placement takes at most this many nodes.
 pub const INITIAL_REPLICATION_FACTOR: usize = 3;
 
-#[derive(Clone, Copy)]
+#[derive(Clone, Copy, PartialEq, Eq, PartialOrd, Ord)]
 pub struct NodeId(pub u64);
 
-#[derive(Clone, Copy)]
+#[derive(Clone, Copy, PartialEq, Eq, PartialOrd, Ord)]
 pub struct ReplicaId(pub u64);
 
-#[derive(Clone, Copy)]
+#[derive(Clone, Copy, PartialEq, Eq, PartialOrd, Ord)]
 pub struct TabletId(pub u64);
 
-#[derive(Clone, Copy)]
+#[derive(Clone, Copy, PartialEq, Eq, PartialOrd, Ord)]
 pub struct RaftGroupId(pub u64);
 
-#[derive(Clone, Copy)]
+#[derive(Clone, Copy, PartialEq, Eq, PartialOrd, Ord)]
 pub struct TableId(pub u64);
 
-// A text is its first len bytes; the rest of the field is padding.
-#[derive(Clone, Copy)]
-pub struct Name {
-    pub len: u8,
-    pub bytes: [u8; NAME_WIDTH],
-}
+pub type Name = Text<NAME_WIDTH>;
 
-#[derive(Clone, Copy)]
-pub struct Label {
-    pub len: u8,
-    pub bytes: [u8; LABEL_WIDTH],
-}
+pub type Label = Text<LABEL_WIDTH>;
 
 // A key; no bytes mean unbounded.
-#[derive(Clone, Copy)]
-pub struct Key {
-    pub len: u8,
-    pub bytes: [u8; KEY_WIDTH],
-}
+pub type Key = Text<KEY_WIDTH>;
 
-// A name or a label that may be absent: the flag stands beside the text.
-#[derive(Clone, Copy)]
-pub struct OptionalName {
-    pub present: bool,
-    pub text: Name,
-}
+pub type OptionalName = Optional<NAME_WIDTH>;
 
-#[derive(Clone, Copy)]
-pub struct OptionalLabel {
-    pub present: bool,
-    pub text: Label,
-}
+pub type OptionalLabel = Optional<LABEL_WIDTH>;
 
 #[derive(Clone, Copy)]
 pub struct NodeDescriptor {
@@ -87,7 +74,7 @@ pub struct NodeDescriptor {
 }
 
 // The kind stands beside both kinds' operands: 0 Hash, 1 Range; those of the other kind are zero.
-#[derive(Clone, Copy)]
+#[derive(Clone, Copy, PartialEq)]
 pub struct PartitionSpec {
     pub kind: u8,
     pub bucket: u32,
@@ -96,7 +83,7 @@ pub struct PartitionSpec {
     pub end_key: Key,
 }
 
-#[derive(Clone, Copy)]
+#[derive(Clone, Copy, PartialEq)]
 pub struct TabletDescriptor {
     pub tablet_id: TabletId,
     pub table_id: TableId,
@@ -105,7 +92,7 @@ pub struct TabletDescriptor {
     pub partition: PartitionSpec,
 }
 
-#[derive(Clone, Copy)]
+#[derive(Clone, Copy, PartialEq)]
 pub struct DesiredReplica {
     pub replica_id: ReplicaId,
     pub node_id: NodeId,
@@ -133,7 +120,7 @@ pub struct DesiredReplicaPlacement {
     pub placement_policy: PlacementPolicy,
 }
 
-#[derive(Clone, Copy)]
+#[derive(Clone, Copy, PartialEq)]
 pub struct RetiredReplicaLifetime {
     pub raft_group_id: RaftGroupId,
     pub replica_id: ReplicaId,
@@ -143,7 +130,7 @@ pub struct RetiredReplicaLifetime {
     pub removal_term: u64,
 }
 
-#[derive(Clone, Copy)]
+#[derive(Clone, Copy, PartialEq)]
 pub struct TableRow {
     pub table_id: TableId,
     pub tablet_count: u32,
@@ -180,53 +167,26 @@ impl MetadataAllocatorState {
     }
 
     // Mark plus one, none at the limit.
-    pub fn next_replica_id(self) -> NextReplicaId
+    pub fn next_replica_id(self) -> Option<ReplicaId>
         ensures { result ≡ next_replica_id self }
     {
         if self.max_replica_id == MetadataAllocatorState::LIMIT {
-            return NextReplicaId::Exhausted;
+            return None;
         }
-        NextReplicaId::Next(ReplicaId(self.max_replica_id + 1))
+        Some(ReplicaId(self.max_replica_id + 1))
     }
 }
 
-// The next replica id, or none at the limit.
-#[derive(Clone, Copy)]
-pub enum NextReplicaId {
-    Next(ReplicaId),
-    Exhausted,
-}
-
 // One table for each kind of row: the first count rows, rising by id; the rest are zero rows.
-#[derive(Clone, Copy)]
-pub struct Nodes {
-    pub count: usize,
-    pub rows: [NodeDescriptor; NODE_ROOM],
-}
+pub type Nodes = Table<NodeDescriptor, NODE_ROOM>;
 
-#[derive(Clone, Copy)]
-pub struct Tables {
-    pub count: usize,
-    pub rows: [TableRow; TABLE_ROOM],
-}
+pub type Tables = Table<TableRow, TABLE_ROOM>;
 
-#[derive(Clone, Copy)]
-pub struct Tablets {
-    pub count: usize,
-    pub rows: [TabletDescriptor; TABLET_ROOM],
-}
+pub type Tablets = Table<TabletDescriptor, TABLET_ROOM>;
 
-#[derive(Clone, Copy)]
-pub struct Placements {
-    pub count: usize,
-    pub rows: [DesiredReplicaPlacement; TABLET_ROOM],
-}
+pub type Placements = Table<DesiredReplicaPlacement, TABLET_ROOM>;
 
-#[derive(Clone, Copy)]
-pub struct Retirements {
-    pub count: usize,
-    pub rows: [RetiredReplicaLifetime; RETIREMENT_ROOM],
-}
+pub type Retirements = Table<RetiredReplicaLifetime, RETIREMENT_ROOM>;
 
 // The cluster's name and its machines.
 #[derive(Clone, Copy)]
@@ -290,6 +250,18 @@ pub enum Answer {
     BadTape(u8, u8),
 }
 
+// The seven commands of the tape.
+#[derive(Clone, Copy)]
+pub enum Command {
+    Naming(Name),
+    Registering(NodeDescriptor),
+    Lifecycle(NodeId, u8),
+    Tablet(TabletDescriptor),
+    Placement(DesiredReplicaPlacement),
+    Retirement(RetiredReplicaLifetime),
+    Picking,
+}
+
 // An answer as document 01 prints it.
 #[derive(Clone, Copy)]
 pub struct Reported {
@@ -312,9 +284,10 @@ pub struct InitialPlacement {
     pub placement_policy: PlacementPolicy,
 }
 
-// The clash search: the existing node, the new node's field and the existing node's field.
+// What the clash search finds: the existing node, the new node's field and the existing node's field.
 #[derive(Clone, Copy)]
-pub enum Clash {
-    At(NodeId, u8, u8),
-    Nothing,
+pub struct Clash {
+    pub node_id: NodeId,
+    pub field: u8,
+    pub existing_field: u8,
 }

@@ -1,188 +1,83 @@
 #![tactic(auto)]
 
 // Questions to a store. Each tests the store first; of one that is not sound it says that alone.
-ghost use Rattle.std.specs.Prelude.{◌≡◌};
-ghost use Rattle.questions.specs.Lookups.{node_found, tablet_found, placement_found, retirement_found, next_found, completeness};
+ghost use Rattle.metadata.specs.Marks.{next_replica_id};
+ghost use Rattle.metadata.specs.Model.{view_nodes, view_tables, view_tablets, view_placements, view_retirements};
+ghost use Rattle.metadata.specs.Sound.{sound};
+ghost use Rattle.metadata.specs.Tables.{node_key, tablet_key, placement_key, retirement_key, zero_node, zero_tablet, zero_placement, zero_retirement};
+ghost use Rattle.metadata.specs.Tablets.{is_complete};
+ghost use Rattle.questions.specs.Lookups.{Tells, Looks};
+ghost use Rattle.std.specs.Prelude.{◌≡◌, ⊤};
 
-use laws::Found;
 use metadata::{
-    DesiredReplicaPlacement, NextReplicaId, NodeDescriptor, NodeId, RaftGroupId, ReplicaId,
+    DesiredReplicaPlacement, NodeDescriptor, NodeId, RaftGroupId, ReplicaId, ReplicaKey,
     RetiredReplicaLifetime, Store, TableId, TabletDescriptor, TabletId,
 };
 
-// What a question to the store gives: whether the store is sound, whether the row is there, and the row.
-#[derive(Clone, Copy)]
-pub struct NodeFound {
-    pub sound: bool,
-    pub found: bool,
-    pub node: NodeDescriptor,
-}
+// The store is not sound.
+#[derive(Clone, Copy, PartialEq, Eq, Debug)]
+pub struct Unsound;
 
-#[derive(Clone, Copy)]
-pub struct TabletFound {
-    pub sound: bool,
-    pub found: bool,
-    pub tablet: TabletDescriptor,
-}
-
-#[derive(Clone, Copy)]
-pub struct PlacementFound {
-    pub sound: bool,
-    pub found: bool,
-    pub placement: DesiredReplicaPlacement,
-}
-
-#[derive(Clone, Copy)]
-pub struct RetirementFound {
-    pub sound: bool,
-    pub found: bool,
-    pub retirement: RetiredReplicaLifetime,
-}
-
-#[derive(Clone, Copy)]
-pub struct NextFound {
-    pub sound: bool,
-    pub next: NextReplicaId,
-}
-
-#[derive(Clone, Copy)]
-pub struct Completeness {
-    pub sound: bool,
-    pub complete: bool,
-}
-
-pub fn next_replica_id(s: Store) -> NextFound
-    ensures { result ≡ next_found s }
+fn ask(s: &Store) -> Result<(), Unsound>
+    ensures { Tells (sound s.now) (λ _. ⊤) result }
 {
     if soundness::sound(s) {
-        let catalog = s.catalog;
-        let next = catalog.marks.next_replica_id();
-        return NextFound { sound: true, next };
+        return Ok(());
     }
-    NextFound {
-        sound: false,
-        next: NextReplicaId::Exhausted,
-    }
+    Err(Unsound)
 }
 
-pub fn is_complete(s: Store, k: TableId) -> Completeness
-    ensures { result ≡ completeness s k }
+// The next replica id; none at the mark's limit.
+pub fn next_replica_id(s: &Store) -> Result<Option<ReplicaId>, Unsound>
+    ensures { Tells (sound s.now) (λ o. o ≡ next_replica_id s.now.catalog.marks) result }
 {
-    if soundness::sound(s) {
-        let catalog = s.catalog;
-        let complete = tablets::is_complete(k, catalog.tables, catalog.tablets);
-        return Completeness {
-            sound: true,
-            complete,
-        };
-    }
-    Completeness {
-        sound: false,
-        complete: false,
-    }
+    ask(s)?;
+    Ok(s.catalog.marks.next_replica_id())
 }
 
-pub fn node(s: Store, k: NodeId) -> NodeFound
-    ensures { result ≡ node_found s k }
+// Whether the table has as many tablets as its tablet count says.
+pub fn is_complete(s: &Store, k: TableId) -> Result<bool, Unsound>
+    ensures { Tells (sound s.now) (λ b. b ≡ is_complete k (view_tables s.now.catalog.tables) (view_tablets s.now.catalog.tablets)) result }
 {
-    let node = zeros::zero_node();
-    if soundness::sound(s) {
-        let directory = s.directory;
-        let Found::At(i) = node_rows::find_node(directory.nodes, k) else {
-            return NodeFound {
-                sound: true,
-                found: false,
-                node,
-            };
-        };
-        return NodeFound {
-            sound: true,
-            found: true,
-            node: node_rows::node_at(directory.nodes, i),
-        };
-    }
-    NodeFound {
-        sound: false,
-        found: false,
-        node,
-    }
+    ask(s)?;
+    Ok(tablets::is_complete(k, &s.catalog.tables, &s.catalog.tablets))
 }
 
-pub fn tablet(s: Store, k: TabletId) -> TabletFound
-    ensures { result ≡ tablet_found s k }
+pub fn node(s: &Store, k: NodeId) -> Result<Option<&NodeDescriptor>, Unsound>
+    ensures { Tells (sound s.now) (Looks node_key zero_node k.0 (view_nodes s.now.directory.nodes)) result }
 {
-    let tablet = zeros::zero_tablet();
-    if soundness::sound(s) {
-        let catalog = s.catalog;
-        let Found::At(i) = tablet_rows::find_tablet(catalog.tablets, k) else {
-            return TabletFound {
-                sound: true,
-                found: false,
-                tablet,
-            };
-        };
-        return TabletFound {
-            sound: true,
-            found: true,
-            tablet: tablet_rows::tablet_at(catalog.tablets, i),
-        };
-    }
-    TabletFound {
-        sound: false,
-        found: false,
-        tablet,
-    }
+    ask(s)?;
+    Ok(s.directory.nodes.get(k))
 }
 
-pub fn desired_placement(s: Store, k: TabletId) -> PlacementFound
-    ensures { result ≡ placement_found s k }
+pub fn tablet(s: &Store, k: TabletId) -> Result<Option<&TabletDescriptor>, Unsound>
+    ensures { Tells (sound s.now) (Looks tablet_key zero_tablet k.0 (view_tablets s.now.catalog.tablets)) result }
 {
-    let placement = zeros::zero_placement();
-    if soundness::sound(s) {
-        let catalog = s.catalog;
-        let Found::At(i) = placement_rows::find_placement(catalog.placements, k) else {
-            return PlacementFound {
-                sound: true,
-                found: false,
-                placement,
-            };
-        };
-        return PlacementFound {
-            sound: true,
-            found: true,
-            placement: placement_rows::placement_at(catalog.placements, i),
-        };
-    }
-    PlacementFound {
-        sound: false,
-        found: false,
-        placement,
-    }
+    ask(s)?;
+    Ok(s.catalog.tablets.get(k))
 }
 
-pub fn retired_replica(s: Store, group: RaftGroupId, replica: ReplicaId) -> RetirementFound
-    ensures { result ≡ retirement_found s group replica }
+pub fn desired_placement(
+    s: &Store,
+    k: TabletId,
+) -> Result<Option<&DesiredReplicaPlacement>, Unsound>
+    ensures { Tells (sound s.now) (Looks placement_key zero_placement k.0 (view_placements s.now.catalog.placements)) result }
 {
-    let retirement = zeros::zero_retirement();
-    if soundness::sound(s) {
-        let catalog = s.catalog;
-        let Found::At(i) = retirement_rows::find_retirement(catalog.retirements, group, replica)
-        else {
-            return RetirementFound {
-                sound: true,
-                found: false,
-                retirement,
-            };
-        };
-        return RetirementFound {
-            sound: true,
-            found: true,
-            retirement: retirement_rows::retirement_at(catalog.retirements, i),
-        };
-    }
-    RetirementFound {
-        sound: false,
-        found: false,
-        retirement,
-    }
+    ask(s)?;
+    Ok(s.catalog.placements.get(k))
+}
+
+pub fn retired_replica(
+    s: &Store,
+    group: RaftGroupId,
+    replica: ReplicaId,
+) -> Result<Option<&RetiredReplicaLifetime>, Unsound>
+    ensures { Tells (sound s.now) (Looks retirement_key zero_retirement (group.0, replica.0) (view_retirements s.now.catalog.retirements)) result }
+{
+    ask(s)?;
+    let key = ReplicaKey {
+        raft_group_id: group,
+        replica_id: replica,
+    };
+    Ok(s.catalog.retirements.get(key))
 }

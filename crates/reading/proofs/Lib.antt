@@ -1,3 +1,3 @@
+-- The laws that belong to no one function. Assumes nothing.
 pub mod Reading
-pub mod Opened
-pub mod Sizes
+pub mod Accepted

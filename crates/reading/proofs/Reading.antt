@@ -3,41 +3,25 @@ use Prim.Native.Nat.{ℕ, zero, suc, ◌+◌, ◌-◌, ◌≤◌, ◌<◌}
 use native.Mathlib.Omega.{arith}
 use mathlib.Core.Path.{◌≡◌, refl, sym, ap, ◌∙◌}
 use mathlib.Core.Bool.{Bool, true, false, cond}
+use Rattle.std.proofs.Common.{◌⊎◌, inl, inr}
+use Rattle.std.proofs.lemmas.Bool.{cases_lt}
 use mathlib.Core.List.{List}
 use lib.Dec.{leb}
 use lib.ListN.{length}
-use borrow.Author.Rules.{rules}
-use borrow.Author.Tests.{le-leb, lt-leb, leb-true, leb-false}
+use borrow.Author.Tests.{le-leb, leb-true, leb-false}
 use Rattle.decode.specs.Decode.{byte_at}
 use Rattle.metadata.specs.declared.Answer.TheVariants as A
 use Rattle.reading.specs.declared.Next.{Next}
 use Rattle.reading.specs.declared.Next.TheVariants as N
 use Rattle.reading.specs.Reader.{Reading, ended, stopped, then, next_at, on_next, read, read_from, lines, is_command, size_of, command_at}
 
--- ---- what stands at a place, as the code tests it
+-- ---- what stands at a place
 
 pub next_end : (l : List ℕ) (at : ℕ) → length l ≤ at → N.End ≡ next_at l at
 unfolding next_at
 next_end l at h = rw (le-leb (length l) at h)
 
-pub next_unknown : (l : List ℕ) (at b : ℕ) (t : Bool) → at < length l → b ≡ byte_at l at → t ≡ is_command b → t ≡ false → N.Unknown b ≡ next_at l at
-unfolding next_at
-next_unknown l at b t h q p e = rw (lt-leb (length l) at h, ← q, ← p, e)
-
-pub next_cut : (l : List ℕ) (at b n : ℕ) (t : Bool) → at < length l → b ≡ byte_at l at → t ≡ is_command b → t ≡ true → n ≡ size_of b → length l - (at + 1) < n → N.Cut b ≡ next_at l at
-unfolding next_at
-next_cut l at b n t h q p e z f =
-    let g : length l < (at + 1) + n = omega arith in
-    rw (lt-leb (length l) at h, ← q, ← p, e, ← z, lt-leb ((at + 1) + n) (length l) g)
-
-pub next_whole : (l : List ℕ) (at b n : ℕ) (t : Bool) → at < length l → b ≡ byte_at l at → t ≡ is_command b → t ≡ true → n ≡ size_of b → n ≤ length l - (at + 1) →
-    N.Whole b ((at + 1) + n) ≡ next_at l at
-unfolding next_at
-next_whole l at b n t h q p e z f =
-    let g : (at + 1) + n ≤ length l = omega arith in
-    rw (lt-leb (length l) at h, ← q, ← p, e, ← z, le-leb ((at + 1) + n) (length l) g)
-
--- ---- and back: a whole command has its bytes
+-- ---- a whole command has its bytes
 
 pub record Whole (l : List ℕ) (at b m : ℕ) : Type 0 where
   pub inside : at < length l
@@ -58,6 +42,24 @@ whole_go l at b m false true true e f g h =
 pub whole : (l : List ℕ) (at b m : ℕ) → next_at l at ≡ N.Whole b m → Whole l at b m
 unfolding next_at
 whole l at b m h = whole_go l at b m (leb (length l) at) (is_command (byte_at l at)) (leb ((at + 1) + size_of (byte_at l at)) (length l)) refl refl refl h
+
+-- what whoever reads a whole command needs to know: its byte is there, it is a command, and its operands are there
+module _ (l : List ℕ) (at b m : ℕ) (x : Next) (q : x ≡ next_at l at) (e : x ≡ N.Whole b m) where
+  pub whole_inside : at < length l
+  whole_inside = let w = whole l at b m (sym q ∙ e) in w.inside
+
+  pub whole_known : is_command b ≡ true
+  whole_known = let w = whole l at b m (sym q ∙ e) in w.known
+
+  pub whole_fits : (at + 1) + size_of b ≤ length l
+  whole_fits = let w = whole l at b m (sym q ∙ e) in rw (← w.next) w.fits
+
+  -- the next place is further on
+  pub whole_less : length l - m < length l - at
+  whole_less = let w = whole l at b m (sym q ∙ e) in omega (arith, w.next, w.inside, w.fits)
+
+-- for `using` on a function that reads a whole command
+pub ruleset wholes = (whole_inside, whole_known, whole_fits, whole_less)
 
 -- ---- any number of turns that is large enough
 
@@ -118,21 +120,22 @@ count_whole l at₀ at n b m x c q e =
       left = c.left ∙ ap (λ (r : Reading). n + lines r) (read_whole l at b m (sym q ∙ e)) ∙ omega arith;
     }
 
-pub count_unknown : (l : List ℕ) (at₀ at n b : ℕ) (x : Next) → Counting l at₀ at n → x ≡ next_at l at → x ≡ N.Unknown b → n + 1 ≡ lines (read_from l at₀)
-count_unknown l at₀ at n b x c q e = sym (c.left ∙ rw (read_unknown l at b (sym q ∙ e)))
+-- the tape stops here: an unknown byte, or a command cut short
+abbrev pub Stops : Next → Type 0
+Stops x = ((b : ℕ) × x ≡ N.Unknown b) ⊎ ((b : ℕ) × x ≡ N.Cut b)
 
-pub count_cut : (l : List ℕ) (at₀ at n b : ℕ) (x : Next) → Counting l at₀ at n → x ≡ next_at l at → x ≡ N.Cut b → n + 1 ≡ lines (read_from l at₀)
-count_cut l at₀ at n b x c q e = sym (c.left ∙ rw (read_cut l at b (sym q ∙ e)))
+pub count_stopped : (l : List ℕ) (at₀ at n : ℕ) (x : Next) → Counting l at₀ at n → x ≡ next_at l at → Stops x → n + 1 ≡ lines (read_from l at₀)
+count_stopped l at₀ at n x c q (inl (b, e)) = sym (c.left ∙ rw (read_unknown l at b (sym q ∙ e)))
+count_stopped l at₀ at n x c q (inr (b, e)) = sym (c.left ∙ rw (read_cut l at b (sym q ∙ e)))
 
 pub count_none : (l : List ℕ) (at₀ at n : ℕ) (x : Next) → Counting l at₀ at n → x ≡ next_at l at → x ≡ N.End → n ≡ lines (read_from l at₀)
 count_none l at₀ at n x c q e = sym (c.left ∙ rw (read_end l at (sym q ∙ e)) (omega arith))
 
-pub count_end : (l : List ℕ) (at₀ at n : ℕ) → Counting l at₀ at n → length l ≤ at → n ≡ lines (read_from l at₀)
-count_end l at₀ at n c h = count_none l at₀ at n N.End c (next_end l at h) refl
+-- where the tape stops there is still a byte
+inside_go : (l : List ℕ) (at : ℕ) (x : Next) → x ≡ next_at l at → Stops x → (at < length l) ⊎ (length l ≤ at) → at < length l
+inside_go l at x q s (inl h) = h
+inside_go l at x q (inl (b, e)) (inr h) = let z : N.End ≡ N.Unknown b = next_end l at h ∙ sym q ∙ e in cc
+inside_go l at x q (inr (b, e)) (inr h) = let z : N.End ≡ N.Cut b = next_end l at h ∙ sym q ∙ e in cc
 
--- the next place is further on, and inside
-pub whole_less : (l : List ℕ) (at b m : ℕ) (x : Next) → x ≡ next_at l at → x ≡ N.Whole b m → length l - m < length l - at
-whole_less l at b m x q e = let w = whole l at b m (sym q ∙ e) in omega (arith, w.next, w.inside, w.fits)
-
--- for `search counting` at each goal of the loop
-pub ruleset counting = (count_start, count_whole, count_unknown, count_cut, count_none, count_end, whole_less, rules)
+pub stops_inside : (l : List ℕ) (at : ℕ) (x : Next) → x ≡ next_at l at → Stops x → at < length l
+stops_inside l at x q s = inside_go l at x q s (cases_lt at (length l))

@@ -2,12 +2,13 @@
 use Rattle.std.specs.Prelude.{ℕ, zero, suc, ◌+◌, ◌*◌, ◌-◌, Bool, cond, ◌&&◌, List, [], ◌∷◌, ◌++◌, leb, ltb, eqb, length}
 use Rattle.decode.specs.Decode.{number_at, byte_at, name_at, node_at, tablet_at, placement_at, retirement_at, table_at, list_at}
 use Rattle.metadata.specs.Rooms.{table_room}
-use Rattle.metadata.specs.Commands.{Command, naming, registering, lifecycle, tablet, placement, retirement, picking}
 use Rattle.metadata.specs.Opening.{opening, refused_store}
 use Rattle.metadata.specs.Sound.{answers}
 use Rattle.metadata.specs.declared.Answer.{Answer}
 use Rattle.metadata.specs.declared.Answer.TheVariants as A
 use Rattle.metadata.specs.declared.Answered.{Answered}
+use Rattle.metadata.specs.declared.Command.{Command}
+use Rattle.metadata.specs.declared.Command.TheVariants.{Naming as naming, Registering as registering, Lifecycle as lifecycle, Tablet as tablet, Placement as placement, Retirement as retirement, Picking as picking}
 use Rattle.metadata.specs.declared.Store.{Store}
 use Rattle.metadata.specs.declared.TableRow.{TableRow}
 use Rattle.reading.specs.declared.Next.{Next}

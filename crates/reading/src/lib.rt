@@ -1,10 +1,20 @@
 #![tactic(auto)]
 
 // What a tape holds: its opening, and what stands at each place behind it.
-ghost use Rattle.std.specs.Prelude.{◌≡◌, ◌<◌};
-ghost use Rattle.reading.specs.Reader.{is_command, size_of, next_at, read_from, lines, open_tape, cut_opening, body_at};
+ghost use Rattle.reading.specs.Reader.{is_command, size_of, next_at, command_at, read_from, lines, body_at};
+ghost use Rattle.std.specs.Prelude.{◌≡◌, ◌+◌, ◌≤◌, true, length};
 
-use metadata::{Answer, Answered, TABLE_ROOM};
+use decode::{node_at, number8, placement_at, retirement_at, tablet_at, text_at};
+use metadata::{Command, NodeId};
+
+mod opened;
+
+pub use opened::open_tape;
+
+// The opening is a table count and the group mark, and then a row for each table.
+const HEAD: usize = 9;
+
+const TABLE: usize = 12;
 
 // What stands at a place of a tape: nothing more, an unknown byte, a command that is cut short, or a whole command with its byte and the place of the next.
 #[derive(Clone, Copy)]
@@ -18,117 +28,84 @@ pub enum Next {
 pub fn is_command(b: u8) -> bool
     ensures { result ≡ is_command b }
 {
-    (1 <= b) & (b <= 7)
+    (1..=7).contains(&b)
 }
 
 // How many operand bytes a command has.
+#[tactic(auto, unfolding(crate::specs::Reader::size_of))]
 pub fn size_of(b: u8) -> usize
     ensures { result ≡ size_of b }
 {
-    if b == 1 {
-        return 49;
+    match b {
+        1 => 49,
+        2 => 305,
+        3 => 9,
+        4 => 107,
+        5 => 234,
+        6 => 48,
+        _ => 0,
     }
-    if b == 2 {
-        return 305;
-    }
-    if b == 3 {
-        return 9;
-    }
-    if b == 4 {
-        return 107;
-    }
-    if b == 5 {
-        return 234;
-    }
-    if b == 6 {
-        return 48;
-    }
-    0
 }
 
+// The command with this byte, by the operands at its place.
+#[tactic(auto, unfolding(crate::specs::Reader::size_of, crate::specs::Reader::command_at))]
+pub fn command_at(b: u8, tape: &[u8], at: usize) -> Command
+    requires { (is_command b ≡ true) × (at + size_of b ≤ length tape.now) }
+    ensures { result ≡ command_at b tape.now at }
+{
+    match b {
+        1 => Command::Naming(text_at(tape, at)),
+        2 => Command::Registering(node_at(tape, at)),
+        3 => Command::Lifecycle(NodeId(number8(tape, at)), tape[at + 8]),
+        4 => Command::Tablet(tablet_at(tape, at)),
+        5 => Command::Placement(placement_at(tape, at)),
+        6 => Command::Retirement(retirement_at(tape, at)),
+        _ => Command::Picking,
+    }
+}
+
+#[tactic(auto, unfolding(crate::specs::Reader::next_at))]
 pub fn next_at(tape: &[u8], at: usize) -> Next
     ensures { result ≡ next_at tape.now at }
 {
-    if tape.len() <= at {
+    let Some(&b) = tape.get(at) else {
         return Next::End;
+    };
+    if !is_command(b) {
+        return Next::Unknown(b);
     }
-    let b = tape[at];
-    if is_command(b) {
-        let size = size_of(b);
-        if tape.len() - (at + 1) < size {
-            return Next::Cut(b);
-        }
-        return Next::Whole(b, (at + 1) + size);
+    let size = size_of(b);
+    if tape.len() - (at + 1) < size {
+        return Next::Cut(b);
     }
-    Next::Unknown(b)
+    Next::Whole(b, at + 1 + size)
 }
 
 // How many lines the commands from a place on print.
+#[tactic(auto, using(crate::proofs::Reading::wholes, crate::proofs::Reading::stops_inside, crate::proofs::Reading::count_start))]
 pub fn count_lines(tape: &[u8], at: usize) -> usize
     ensures { result ≡ lines (read_from tape.now at) }
 {
     let mut n = 0;
-    let mut i = at;
-    while i < tape.len() {
-        match next_at(tape, i) {
-            Next::Whole(_, m) => {
-                i = m;
+    let mut place = at;
+    loop {
+        match next_at(tape, place) {
+            Next::Whole(_, next) => {
+                place = next;
                 n += 1;
             }
-            Next::Unknown(_) => {
-                return n + 1;
-            }
-            Next::Cut(_) => {
-                return n + 1;
-            }
-            Next::End => {
-                return n;
-            }
+            Next::Unknown(_) | Next::Cut(_) => return n + 1,
+            Next::End => return n,
         }
     }
-    n
-}
-
-fn count_of(b: u8) -> usize
-    ensures { (result ≡ b) × (result < 256) }
-{
-    b as usize
-}
-
-fn cut_opening() -> Answered
-    ensures { result ≡ cut_opening }
-{
-    let store = opening::refused_opening().store;
-    Answered {
-        answer: Answer::BadTape(2, 0),
-        store,
-    }
-}
-
-// The opening at the start of a tape.
-pub fn open_tape(tape: &[u8]) -> Answered
-    ensures { result ≡ open_tape tape.now }
-{
-    if tape.len() < 9 {
-        return cut_opening();
-    }
-    let count = count_of(tape[0]);
-    if TABLE_ROOM < count {
-        return opening::refused_opening();
-    }
-    if tape.len() < 9 + 12 * count {
-        return cut_opening();
-    }
-    let rows = decode_rows::tables_at(tape, 9, count);
-    opening::open(count, rows, decode::number8(tape, 1))
 }
 
 // Where the commands begin.
 pub fn body_at(tape: &[u8]) -> usize
     ensures { result ≡ body_at tape.now }
 {
-    if tape.len() == 0 {
-        return 9;
+    match tape.first() {
+        Some(count) => HEAD + TABLE * usize::from(*count),
+        None => HEAD,
     }
-    9 + 12 * count_of(tape[0])
 }

@@ -1,136 +1,110 @@
-#![tactic(auto)]
+#![tactic(auto, unfolding(metadata::specs::Answers::refuse, metadata::specs::Answers::and_then))]
 
-// Retirement: a replica number that is no longer desired is given up for good.
-ghost use Rattle.std.specs.Prelude.{◌≡◌, true, cond, leb, length, take};
-ghost use Rattle.laws.specs.Keyed.{put};
-ghost use Rattle.metadata.specs.Rooms.{retirement_room};
-ghost use Rattle.metadata.specs.Answers.{is_applied};
-ghost use Rattle.metadata.specs.Tables.{retirement_key, is_zero_retirement};
-ghost use Rattle.metadata.specs.Commands.{retirement};
-ghost use Rattle.metadata.specs.Tablets.{judge_retirement};
-ghost use Rattle.metadata.specs.Model.{view_tablets, view_placements, view_retirements, pack_retirements, decided};
-ghost use Rattle.metadata.specs.Sound.{sound_table};
-ghost use Rattle.retired.specs.Steps.{retired_numbers};
+// Retirements: what the retirement of a replica number is answered, and which numbers are retired.
+ghost use Rattle.std.specs.Prelude.{◌≡◌, true, false, eqb, MatchOption};
+ghost use Rattle.laws.specs.Keyed.{has};
+ghost use Rattle.laws.specs.Lists.{any};
+ghost use Rattle.metadata.specs.Answers.{Gives};
+ghost use Rattle.metadata.specs.Model.{view_tablets, view_placements, view_retirements};
+ghost use Rattle.metadata.specs.Tables.{group_key, tablet_of_group};
+ghost use Rattle.metadata.specs.Tablets.{is_replica_retired, desires, judge_retirement};
+ghost use Rattle.retirements.specs.Steps.{judge_known_row, judge_new_row};
 
-use admission::retirement_reason;
 use metadata::{
-    Answer, OptionalName, Placements, RETIREMENT_ROOM, RaftGroupId, RetiredReplicaLifetime,
-    Retirements, Tablets,
+    Answer, DesiredReplica, DesiredReplicaPlacement, Placements, RETIREMENT_ROOM, RaftGroupId,
+    ReplicaId, ReplicaKey, RetiredReplicaLifetime, Retirements, TabletDescriptor, TabletId,
+    Tablets,
 };
-use placement_rows::lookup_placement;
-use reports::is_applied;
-use retired::{Numbers, desires, judge_known_retirement, judge_new_retirement};
-use retirement_rows::{insert_retirement, lookup_retirement};
-use rows::{LookedUp, looked};
-use tablet_rows::lookup_group;
 
-// All numbers that are retired in a group, so that the table is walked once for all replicas of a placement.
-pub fn retired_numbers(group: RaftGroupId, retirements: Retirements) -> Numbers
-    ensures { take result.count result.ids ≡ retired_numbers group.0 (view_retirements retirements) }
+// The first tablet, by id, of the group.
+pub fn tablet_of_group(tablets: &Tablets, group: RaftGroupId) -> Option<&TabletDescriptor>
+    ensures { MatchOption result (has group_key group.0 (view_tablets tablets.now) ≡ false) (λ t. (has group_key group.0 (view_tablets tablets.now) ≡ true) × (tablet_of_group group.0 (view_tablets tablets.now) ≡ t.now)) }
 {
-    let rows = retirements.rows;
-    let to = retirements.count;
-    let mut ids = [0; RETIREMENT_ROOM];
-    let mut count: usize = 0;
-    let mut i: usize = 0;
-    while i < to {
-        if RETIREMENT_ROOM <= i {
-            return Numbers { count, ids };
-        }
-        if rows[i].raft_group_id.0 == group.0 {
-            ids[count] = rows[i].replica_id.0;
-            count += 1;
-            i += 1;
-        } else {
-            i += 1;
-        }
-    }
-    Numbers { count, ids }
+    tablets.used().iter().find(|t| t.raft_group_id == group)
 }
 
-// No row is left for another retirement.
-fn retirements_full(retirements: Retirements) -> bool
-    ensures { result ≡ leb retirement_room (length (view_retirements retirements)) }
+// The number is retired in its group, the one test for it.
+#[tactic(auto, unfolding(metadata::specs::Tablets::is_replica_retired))]
+pub fn is_replica_retired(retirements: &Retirements, group: RaftGroupId, replica: ReplicaId) -> bool
+    ensures { result ≡ is_replica_retired group.0 replica.0 (view_retirements retirements.now) }
 {
-    RETIREMENT_ROOM <= retirements.count
-}
-
-// The checks of a retirement, from top to bottom; each row is looked up once. The retirements are asked as soon as they come in, so that the compiler need not copy them for a later use.
-pub fn judge_retirement(
-    tablets: Tablets,
-    placements: Placements,
-    retirements: Retirements,
-    x: RetiredReplicaLifetime,
-) -> Answer
-    ensures { result ≡ judge_retirement (view_tablets tablets) (view_placements placements) (view_retirements retirements) x }
-{
-    let group = x.raft_group_id;
-    let replica = x.replica_id;
-    let known = lookup_retirement(retirements, group, replica);
-    let full = retirements_full(retirements);
-    let owner = lookup_group(tablets, group);
-    let LookedUp::Row = looked(owner.there) else {
-        return Answer::UnknownRaftGroup(group);
+    let key = ReplicaKey {
+        raft_group_id: group,
+        replica_id: replica,
     };
-    let tablet = owner.row.tablet_id;
-    let placed = lookup_placement(placements, tablet);
-    if desires(replica, placed.row) {
-        return Answer::RetirementStillDesired(group, replica);
-    }
-    if known.there {
-        return judge_known_retirement(known.row, x);
-    }
-    judge_new_retirement(tablet, placed, full, x)
+    retirements.contains(key)
 }
 
-// What the handler gives: the answer, and the one table that it changes.
-#[derive(Clone, Copy)]
-pub struct RetirementsAnswered {
-    pub answer: Answer,
-    pub retirements: Retirements,
-}
-
-// Every check of a retirement, from admission on.
-pub fn decide_retirement(
-    cluster_id: OptionalName,
-    tablets: Tablets,
-    placements: Placements,
-    retirements: Retirements,
-    x: RetiredReplicaLifetime,
-) -> Answer
-    ensures { result ≡ decided cluster_id (retirement x) (judge_retirement (view_tablets tablets) (view_placements placements) (view_retirements retirements) x) }
+// One of the replicas has the number.
+fn holds_replica(replicas: &[DesiredReplica], replica: ReplicaId) -> bool
+    ensures { result ≡ any (λ r. eqb r.replica_id.0 replica.0) replicas.now }
 {
-    let reason = retirement_reason(x);
-    if reason != 0 {
-        return Answer::InvalidCommand(reason);
-    }
-    if cluster_id.present {
-        return judge_retirement(tablets, placements, retirements, x);
-    }
-    Answer::NotInitialized
+    replicas.iter().any(|r| r.replica_id == replica)
 }
 
-// Inner: the store's entry points show that the retirements are sound. An Applied retirement takes its place; any other answer changes nothing.
-pub fn apply_replica_retirement(
-    cluster_id: OptionalName,
-    tablets: Tablets,
-    placements: Placements,
-    retirements: Retirements,
-    x: RetiredReplicaLifetime,
-) -> RetirementsAnswered
-    requires { sound_table retirement_key is_zero_retirement retirement_room retirements.count retirements.rows ≡ true }
-    ensures { (result.answer ≡ decided cluster_id (retirement x) (judge_retirement (view_tablets tablets) (view_placements placements) (view_retirements retirements) x)) × (result.retirements ≡ cond (is_applied (decided cluster_id (retirement x) (judge_retirement (view_tablets tablets) (view_placements placements) (view_retirements retirements) x))) (pack_retirements (put retirement_key x (view_retirements retirements))) retirements) }
+// The replica number is desired.
+#[tactic(auto, unfolding(metadata::specs::Tablets::desires))]
+pub fn desires(replica: ReplicaId, p: &DesiredReplicaPlacement) -> bool
+    ensures { result ≡ desires replica.0 p.now }
 {
-    let answer = decide_retirement(cluster_id, tablets, placements, retirements, x);
-    if is_applied(answer) {
-        let more = insert_retirement(retirements, x).retirements;
-        return RetirementsAnswered {
-            answer,
-            retirements: more,
-        };
+    holds_replica(p.desired(), replica)
+}
+
+// A retirement that is known: the same row again, or another proof for the same replica.
+fn judge_known_retirement(
+    known: &RetiredReplicaLifetime,
+    x: &RetiredReplicaLifetime,
+) -> Result<(), Answer>
+    ensures { Gives result (judge_known_row known.now x.now) }
+{
+    if known.is_same(x) {
+        return Err(Answer::AlreadyApplied);
     }
-    RetirementsAnswered {
-        answer,
-        retirements,
+    Err(Answer::RetirementProofConflict(x.raft_group_id, x.replica_id))
+}
+
+// The checks of a retirement that is not known yet, by the placement of its group's tablet.
+fn judge_new_retirement(
+    tablet: TabletId,
+    p: &DesiredReplicaPlacement,
+    retirements: &Retirements,
+    x: &RetiredReplicaLifetime,
+) -> Result<(), Answer>
+    ensures { Gives result (judge_new_row tablet p.now.configuration_epoch (view_retirements retirements.now) x.now) }
+{
+    let stored = p.configuration_epoch;
+    let received = x.desired_configuration_epoch;
+    if received != stored {
+        return Err(Answer::PlacementEpochMismatch(tablet, stored, received));
     }
+    if RETIREMENT_ROOM <= retirements.used().len() {
+        return Err(Answer::TableFull(2, RETIREMENT_ROOM as u64));
+    }
+    Ok(())
+}
+
+// The checks of a retirement, from top to bottom; each row is looked up once.
+#[tactic(auto, unfolding(metadata::specs::Tablets::judge_retirement, metadata::specs::Tablets::judge_known_retirement, metadata::specs::Tablets::judge_new_retirement, metadata::specs::Tablets::is_replica_retired, metadata::specs::Answers::refuse, metadata::specs::Answers::and_then), using(crate::proofs::Lookups::placement_rules))]
+pub fn judge_retirement(
+    tablets: &Tablets,
+    placements: &Placements,
+    retirements: &Retirements,
+    x: &RetiredReplicaLifetime,
+) -> Result<(), Answer>
+    ensures { Gives result (judge_retirement (view_tablets tablets.now) (view_placements placements.now) (view_retirements retirements.now) x.now) }
+{
+    let Some(tablet) = tablet_of_group(tablets, x.raft_group_id) else {
+        return Err(Answer::UnknownRaftGroup(x.raft_group_id));
+    };
+    let placement = placements.get(tablet.tablet_id);
+    if placement.is_some_and(|p| desires(x.replica_id, p)) {
+        return Err(Answer::RetirementStillDesired(x.raft_group_id, x.replica_id));
+    }
+    if let Some(known) = retirements.get(x.key()) {
+        return judge_known_retirement(known, x);
+    }
+    let Some(p) = placement else {
+        return Err(Answer::UnknownTablet(tablet.tablet_id));
+    };
+    judge_new_retirement(tablet.tablet_id, p, retirements, x)
 }

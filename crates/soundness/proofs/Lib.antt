@@ -1,2 +1,1 @@
 -- The laws that belong to no one function. Assumes nothing.
-pub mod Whole

@@ -1,131 +1,175 @@
-#![tactic(auto)]
+#![tactic(auto, unfolding(laws::specs::Tests::all_of))]
 
 // Reason 12: whether a store keeps to its room, its rows rise, its padding is zero and its marks are sound.
-ghost use Rattle.std.specs.Prelude.{◌≡◌};
-ghost use Rattle.laws.specs.Lists.{every};
-ghost use Rattle.metadata.specs.Rooms.{node_room, table_room, tablet_room, retirement_room};
-ghost use Rattle.metadata.specs.Tables.{node_key, table_key, tablet_key, placement_key, retirement_key, is_zero_node, is_zero_table, is_zero_tablet, is_zero_placement, is_zero_retirement};
-ghost use Rattle.metadata.specs.Model.{view_nodes, view_tablets, view_placements};
-ghost use Rattle.metadata.specs.Sound.{sound_node, sound_tablet, sound_placement, sound_table, sound_directory, sound_catalog, sound};
+ghost use Rattle.laws.specs.Lists.{every, none_twice};
+ghost use Rattle.metadata.specs.Commands.{same_host};
+ghost use Rattle.metadata.specs.Model.{view_nodes, view_tables, view_tablets, view_placements, view_catalog};
+ghost use Rattle.metadata.specs.Sound.{sound_node, sound_tablet, sound_policy, sound_placement, replicas_below, sound_marks, sound_directory, sound_catalog, sound};
+ghost use Rattle.metadata.specs.Tables.{desired, endpoints, is_zero_id, is_zero_replica};
+ghost use Rattle.metadata.specs.Texts.{name_fits};
+ghost use Rattle.std.specs.Prelude.{◌≡◌, leb, drop};
 
-use mark_checks::sound_marks;
 use metadata::{
-    Catalog, Directory, NODE_ROOM, Nodes, Placements, RETIREMENT_ROOM, Retirements, Store,
-    TABLE_ROOM, TABLET_ROOM, Tables, Tablets,
+    Catalog, DesiredReplicaPlacement, Directory, NodeDescriptor, PlacementPolicy, REPLICA_ROOM,
+    Store, TabletDescriptor,
 };
 
-// A table: its count within the room, its rows rising, the rows past the count zero.
-pub fn sound_nodes(t: Nodes) -> bool
-    ensures { result ≡ sound_table node_key is_zero_node node_room t.count t.rows }
+// ---- a row: lengths and counts within the room, padding and unused places zero, no node twice in one placement
+
+fn endpoints_fit(n: &NodeDescriptor) -> bool
+    ensures { result ≡ every name_fits (endpoints n.now) }
 {
-    (t.count <= NODE_ROOM) & row_order::nodes_rising(t) & row_order::nodes_clear(t)
+    n.raft_addr.fits() && n.snapshot_addr.fits() && n.sql_addr.fits() && n.admin_addr.fits()
 }
 
-pub fn sound_tables(t: Tables) -> bool
-    ensures { result ≡ sound_table table_key is_zero_table table_room t.count t.rows }
+#[tactic(auto, unfolding(laws::specs::Tests::all_of, metadata::specs::Sound::sound_node))]
+pub fn sound_node(n: &NodeDescriptor) -> bool
+    ensures { result ≡ sound_node n.now }
 {
-    (t.count <= TABLE_ROOM) & row_order::tables_rising(t) & row_order::tables_clear(t)
+    endpoints_fit(n) && n.region.fits() && n.zone.fits() && n.rack.fits() && n.storage_class.fits()
 }
 
-pub fn sound_tablets(t: Tablets) -> bool
-    ensures { result ≡ sound_table tablet_key is_zero_tablet tablet_room t.count t.rows }
+#[tactic(auto, unfolding(laws::specs::Tests::all_of, metadata::specs::Sound::sound_tablet))]
+pub fn sound_tablet(t: &TabletDescriptor) -> bool
+    ensures { result ≡ sound_tablet t.now }
 {
-    (t.count <= TABLET_ROOM) & row_order::tablets_rising(t) & row_order::tablets_clear(t)
+    t.partition.start_key.fits() && t.partition.end_key.fits()
 }
 
-pub fn sound_placements(t: Placements) -> bool
-    ensures { result ≡ sound_table placement_key is_zero_placement tablet_room t.count t.rows }
+fn leaders_clear(q: &PlacementPolicy) -> bool
+    ensures { result ≡ every is_zero_id (drop q.now.preferred_leader_count q.now.preferred_leader_nodes) }
 {
-    (t.count <= TABLET_ROOM) & row_order::placements_rising(t) & row_order::placements_clear(t)
+    q.unused_leaders().iter().all(|k| k.is_zero())
 }
 
-pub fn sound_retirements(t: Retirements) -> bool
-    ensures { result ≡ sound_table retirement_key is_zero_retirement retirement_room t.count t.rows }
+#[tactic(auto, unfolding(laws::specs::Tests::all_of, metadata::specs::Sound::sound_policy))]
+pub fn sound_policy(q: &PlacementPolicy) -> bool
+    ensures { result ≡ sound_policy q.now }
 {
-    (t.count <= RETIREMENT_ROOM)
-        & row_order::retirements_rising(t)
-        & row_order::retirements_clear(t)
+    (q.preferred_leader_count as usize) <= REPLICA_ROOM
+        && leaders_clear(q)
+        && q.required_storage_class.fits()
 }
 
-// Each row in use is sound by itself.
-fn node_rows(t: Nodes) -> bool
-    ensures { result ≡ every sound_node (view_nodes t) }
+fn replicas_clear(p: &DesiredReplicaPlacement) -> bool
+    ensures { result ≡ every is_zero_replica (drop p.now.replica_count p.now.replicas) }
 {
-    let rows = t.rows;
-    let count = t.count;
-    let mut i = 0;
-    while i < count {
-        if NODE_ROOM <= i {
-            return true;
-        }
-        if sound_rows::sound_node(rows[i]) {
-            i += 1;
-        } else {
-            return false;
-        }
-    }
-    true
+    p.unused_replicas().iter().all(|r| r.is_zero())
 }
 
-fn tablet_rows(t: Tablets) -> bool
-    ensures { result ≡ every sound_tablet (view_tablets t) }
+// No host twice among the copies.
+fn hosts_differ(p: &DesiredReplicaPlacement) -> bool
+    ensures { result ≡ none_twice same_host (desired p.now) }
 {
-    let rows = t.rows;
-    let count = t.count;
-    let mut i = 0;
-    while i < count {
-        if TABLET_ROOM <= i {
-            return true;
-        }
-        if sound_rows::sound_tablet(rows[i]) {
-            i += 1;
-        } else {
-            return false;
-        }
-    }
-    true
+    lists::none_twice(p.desired(), |a, b| a.node_id == b.node_id)
 }
 
-fn placement_rows(t: Placements) -> bool
-    ensures { result ≡ every sound_placement (view_placements t) }
+#[tactic(auto, unfolding(laws::specs::Tests::all_of, metadata::specs::Sound::sound_placement))]
+pub fn sound_placement(p: &DesiredReplicaPlacement) -> bool
+    ensures { result ≡ sound_placement p.now }
 {
-    let rows = t.rows;
-    let count = t.count;
-    let mut i = 0;
-    while i < count {
-        if TABLET_ROOM <= i {
-            return true;
-        }
-        if sound_rows::sound_placement(rows[i]) {
-            i += 1;
-        } else {
-            return false;
-        }
-    }
-    true
+    (p.replica_count as usize) <= REPLICA_ROOM
+        && replicas_clear(p)
+        && hosts_differ(p)
+        && sound_policy(&p.placement_policy)
 }
 
-pub fn sound_directory(d: Directory) -> bool
-    ensures { result ≡ sound_directory d }
+// ---- the marks: no id lies above its mark
+
+fn tables_below(c: &Catalog) -> bool
+    ensures { result ≡ every (λ t. leb t.table_id.0 c.now.marks.max_table_id) (view_tables c.now.tables) }
 {
-    fields::optional_name_fits(d.cluster_id) & sound_nodes(d.nodes) & node_rows(d.nodes)
+    c.tables
+        .used()
+        .iter()
+        .all(|t| t.table_id.0 <= c.marks.max_table_id)
 }
 
-pub fn sound_catalog(c: Catalog) -> bool
-    ensures { result ≡ sound_catalog c }
+fn tablets_below(c: &Catalog) -> bool
+    ensures { result ≡ every (λ t. leb t.tablet_id.0 c.now.marks.max_tablet_id) (view_tablets c.now.tablets) }
 {
-    sound_tables(c.tables)
-        & sound_tablets(c.tablets)
-        & tablet_rows(c.tablets)
-        & sound_placements(c.placements)
-        & placement_rows(c.placements)
-        & sound_retirements(c.retirements)
-        & sound_marks(c)
+    c.tablets
+        .used()
+        .iter()
+        .all(|t| t.tablet_id.0 <= c.marks.max_tablet_id)
+}
+
+fn groups_below(c: &Catalog) -> bool
+    ensures { result ≡ every (λ t. leb t.raft_group_id.0 c.now.marks.max_raft_group_id) (view_tablets c.now.tablets) }
+{
+    c.tablets
+        .used()
+        .iter()
+        .all(|t| t.raft_group_id.0 <= c.marks.max_raft_group_id)
+}
+
+// The desired copies of one placement.
+fn replicas_below(p: &DesiredReplicaPlacement, mark: u64) -> bool
+    ensures { result ≡ replicas_below mark p.now }
+{
+    p.desired().iter().all(|r| r.replica_id.0 <= mark)
+}
+
+fn placements_below(c: &Catalog) -> bool
+    ensures { result ≡ every (replicas_below c.now.marks.max_replica_id) (view_placements c.now.placements) }
+{
+    c.placements
+        .used()
+        .iter()
+        .all(|p| replicas_below(p, c.marks.max_replica_id))
+}
+
+#[tactic(auto, unfolding(laws::specs::Tests::all_of, metadata::specs::Sound::sound_marks))]
+pub fn sound_marks(c: &Catalog) -> bool
+    ensures { result ≡ sound_marks (view_catalog c.now) }
+{
+    tables_below(c) && tablets_below(c) && groups_below(c) && placements_below(c)
+}
+
+// ---- the store
+
+fn nodes_sound(d: &Directory) -> bool
+    ensures { result ≡ every sound_node (view_nodes d.now.nodes) }
+{
+    d.nodes.used().iter().all(|n| sound_node(n))
+}
+
+#[tactic(auto, unfolding(laws::specs::Tests::all_of, metadata::specs::Sound::sound_directory))]
+pub fn sound_directory(d: &Directory) -> bool
+    ensures { result ≡ sound_directory d.now }
+{
+    d.cluster_id.fits() && d.nodes.is_sound() && nodes_sound(d)
+}
+
+fn tablets_sound(c: &Catalog) -> bool
+    ensures { result ≡ every sound_tablet (view_tablets c.now.tablets) }
+{
+    c.tablets.used().iter().all(|t| sound_tablet(t))
+}
+
+fn placements_sound(c: &Catalog) -> bool
+    ensures { result ≡ every sound_placement (view_placements c.now.placements) }
+{
+    c.placements.used().iter().all(|p| sound_placement(p))
+}
+
+#[tactic(auto, unfolding(laws::specs::Tests::all_of, metadata::specs::Sound::sound_catalog))]
+pub fn sound_catalog(c: &Catalog) -> bool
+    ensures { result ≡ sound_catalog c.now }
+{
+    c.tables.is_sound()
+        && c.tablets.is_sound()
+        && tablets_sound(c)
+        && c.placements.is_sound()
+        && placements_sound(c)
+        && c.retirements.is_sound()
+        && sound_marks(c)
 }
 
 // Document 01: a store for which this does not hold "gets 10, reason 12, before all else".
-pub fn sound(s: Store) -> bool
-    ensures { result ≡ sound s }
+#[tactic(auto, unfolding(laws::specs::Tests::all_of, metadata::specs::Sound::sound))]
+pub fn sound(s: &Store) -> bool
+    ensures { result ≡ sound s.now }
 {
-    sound_directory(s.directory) & sound_catalog(s.catalog)
+    sound_directory(&s.directory) && sound_catalog(&s.catalog)
 }

@@ -1,2 +1,1 @@
--- The definitions that this crate adds to those of `metadata`. Assumes nothing.
-pub mod Refused
+-- The definitions are those of `metadata`.

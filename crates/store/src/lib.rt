@@ -1,92 +1,73 @@
 #![tactic(auto)]
 
 // The store that a user holds. Entry points have no `requires`: each tests the store first and answers 10, reason 12, where it is not sound.
-ghost use Rattle.std.specs.Prelude.{◌≡◌};
-ghost use Rattle.metadata.specs.Commands.{naming, registering, lifecycle, tablet, placement, retirement, picking};
+ghost use Rattle.metadata.specs.declared.Command.TheVariants.{Naming as naming, Registering as registering, Lifecycle as lifecycle, Tablet as tablet, Placement as placement, Retirement as retirement, Picking as picking};
 ghost use Rattle.metadata.specs.Sound.{entry};
-ghost use Rattle.store.specs.Refused.{unsound};
+ghost use Rattle.metadata.specs.declared.Answered.{Answered};
 ghost use Rattle.opening.specs.Opened.{opening_of};
+ghost use Rattle.std.specs.Prelude.{◌≡◌};
 
+use admission::Reason;
 use metadata::{
-    Answer, Answered, DesiredReplicaPlacement, Name, NodeDescriptor, NodeId,
+    Answer, Answered, Command, DesiredReplicaPlacement, Name, NodeDescriptor, NodeId,
     RetiredReplicaLifetime, Store, TABLE_ROOM, TableRow, TabletDescriptor,
 };
 
-fn refused(s: Store) -> Answered
-    ensures { result ≡ unsound s }
+// One command on the store where it stands: what it is answered.
+pub fn apply(s: &mut Store, c: &Command) -> Answer
+    ensures { ◌≡◌ {A = Answered} (record { answer = result; store = s.new }) (entry s.old c.now) }
 {
-    Answered {
-        answer: Answer::InvalidCommand(12),
-        store: s,
+    if !soundness::sound(s) {
+        return Answer::from(Reason::UnsoundStore);
     }
+    steps::step(s, c)
 }
 
-pub fn apply_create_tablet(s: Store, t: TabletDescriptor) -> Answered
-    ensures { result ≡ entry s (tablet t) }
+pub fn apply_create_tablet(s: &mut Store, t: &TabletDescriptor) -> Answer
+    ensures { ◌≡◌ {A = Answered} (record { answer = result; store = s.new }) (entry s.old (tablet t.now)) }
 {
-    if soundness::sound(s) {
-        return catalog_steps::create_tablet_step(s, t);
-    }
-    refused(s)
+    apply(s, &Command::Tablet(*t))
 }
 
-pub fn apply_replica_retirement(s: Store, x: RetiredReplicaLifetime) -> Answered
-    ensures { result ≡ entry s (retirement x) }
+pub fn apply_replica_retirement(s: &mut Store, x: &RetiredReplicaLifetime) -> Answer
+    ensures { ◌≡◌ {A = Answered} (record { answer = result; store = s.new }) (entry s.old (retirement x.now)) }
 {
-    if soundness::sound(s) {
-        return catalog_steps::replica_retirement_step(s, x);
-    }
-    refused(s)
+    apply(s, &Command::Retirement(*x))
 }
 
-pub fn select_initial_placement(s: Store) -> Answered
-    ensures { result ≡ entry s picking }
+pub fn select_initial_placement(s: &mut Store) -> Answer
+    ensures { ◌≡◌ {A = Answered} (record { answer = result; store = s.new }) (entry s.old picking) }
 {
-    if soundness::sound(s) {
-        return directory_steps::initial_placement_step(s);
-    }
-    refused(s)
+    apply(s, &Command::Picking)
 }
 
-pub fn apply_cluster_initialized(s: Store, t: Name) -> Answered
-    ensures { result ≡ entry s (naming t) }
+pub fn apply_cluster_initialized(s: &mut Store, t: &Name) -> Answer
+    ensures { ◌≡◌ {A = Answered} (record { answer = result; store = s.new }) (entry s.old (naming t.now)) }
 {
-    if soundness::sound(s) {
-        return directory_steps::cluster_initialized_step(s, t);
-    }
-    refused(s)
+    apply(s, &Command::Naming(*t))
 }
 
-pub fn apply_register_node(s: Store, n: NodeDescriptor) -> Answered
-    ensures { result ≡ entry s (registering n) }
+pub fn apply_register_node(s: &mut Store, n: &NodeDescriptor) -> Answer
+    ensures { ◌≡◌ {A = Answered} (record { answer = result; store = s.new }) (entry s.old (registering n.now)) }
 {
-    if soundness::sound(s) {
-        return directory_steps::register_node_step(s, n);
-    }
-    refused(s)
+    apply(s, &Command::Registering(*n))
 }
 
-pub fn apply_set_node_lifecycle(s: Store, k: NodeId, to: u8) -> Answered
-    ensures { result ≡ entry s (lifecycle k to) }
+pub fn apply_set_node_lifecycle(s: &mut Store, k: NodeId, to: u8) -> Answer
+    ensures { ◌≡◌ {A = Answered} (record { answer = result; store = s.new }) (entry s.old (lifecycle k to)) }
 {
-    if soundness::sound(s) {
-        return directory_steps::set_node_lifecycle_step(s, k, to);
-    }
-    refused(s)
+    apply(s, &Command::Lifecycle(k, to))
 }
 
-pub fn apply_desired_placement(s: Store, p: DesiredReplicaPlacement) -> Answered
-    ensures { result ≡ entry s (placement p) }
+pub fn apply_desired_placement(s: &mut Store, p: &DesiredReplicaPlacement) -> Answer
+    ensures { ◌≡◌ {A = Answered} (record { answer = result; store = s.new }) (entry s.old (placement p.now)) }
 {
-    if soundness::sound(s) {
-        return catalog_steps::desired_placement_step(s, p);
-    }
-    refused(s)
+    apply(s, &Command::Placement(*p))
 }
 
 // The opening: the first count rows are the tables.
-pub fn open(count: usize, rows: [TableRow; TABLE_ROOM], group: u64) -> Answered
-    ensures { result ≡ opening_of count rows group }
+pub fn open(count: usize, rows: &[TableRow; TABLE_ROOM], group: u64) -> Answered
+    ensures { result ≡ opening_of count rows.now group }
 {
     opening::open(count, rows, group)
 }

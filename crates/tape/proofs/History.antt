@@ -14,7 +14,7 @@ use Rattle.metadata.proofs.Theorem.{history}
 use Rattle.metadata.specs.declared.Answered.{Answered}
 use Rattle.metadata.specs.declared.Store.{Store}
 use Rattle.tape.specs.declared.Ran.{Ran}
-use Rattle.reading.proofs.Opened.{accepted}
+use Rattle.reading.proofs.Accepted.{accepted}
 use Rattle.tape.specs.Tape.{outcome, final_store, ran, TapeClaims}
 use Rattle.reading.specs.Reader.{read_from, tables_of, group_of, body_at, open_tape}
 

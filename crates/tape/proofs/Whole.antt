@@ -1,5 +1,5 @@
 -- The ways out of the whole run, as the code meets them. Assumes nothing.
-use Prim.Native.Nat.{ℕ, ◌+◌, ◌*◌, ◌/◌, ◌≤◌, ◌<◌}
+use Prim.Native.Nat.{ℕ, ◌*◌, ◌/◌, ◌≤◌, ◌<◌}
 use native.Mathlib.Omega.{arith}
 use native.Mathlib.Nat.{div-add-mod', mod-lt}
 use mathlib.Core.Path.{◌≡◌, sym, ap, ap₂, ◌∙◌}
@@ -9,7 +9,6 @@ use lib.ListN.{length, drop}
 use borrow.Author.Tests.{le-leb, lt-leb}
 use Rattle.metadata.specs.Answers.{reported, is_applied}
 use Rattle.metadata.specs.Sound.{run}
-use Rattle.metadata.specs.declared.Answer.TheVariants as A
 use Rattle.metadata.specs.declared.Answered.{Answered}
 use Rattle.metadata.specs.declared.Store.{Store}
 use Rattle.tape.specs.declared.Ran.{Ran}
@@ -17,7 +16,8 @@ use Rattle.tape.specs.Tape.{outcome, final_store, ran, ran_out}
 use Rattle.tape_commands.specs.Commands.{Done}
 use Rattle.answer_numbers.specs.Numbers.{written, numbers_of, numbers}
 use Rattle.reading.specs.Reader.{read_from, lines, tape_answers, open_tape, body_at}
-use Rattle.reading.proofs.Opened.{applied}
+use borrow.Author.Rules.{rules}
+use Rattle.reading.proofs.Accepted.{applied, opened_is_sound}
 use Rattle.tape_commands.proofs.Running.{lines-length}
 
 -- ---- the whole run; o is what the opening gave, b whether it was accepted, n the number of lines
@@ -98,3 +98,7 @@ module _ (l : List ℕ) (o : Answered) (b : Bool) (q : o ≡ open_tape l) (p : b
     refusal_out new e h w =
         let f : 4 * length (outcome l) ≤ length out = omega (arith, ap length (one_line e)) in
         rw (le-leb (4 * length (outcome l)) (length out) f, one_line e) (w ∙ ap (λ (x : List ℕ). x ++ drop 4 out) (sym (append-nil (numbers_of (reported o.answer)))))
+
+pub ruleset runs = (answers_fit, short-run, short_out, whole_run, whole_out, opened_is_sound, rules)
+
+pub ruleset refusals = (short_refusal, short_refusal_out, refusal_run, refusal_out, rules)

@@ -1,5 +1,5 @@
 -- The run of a command tape (document 01): what it is answered, and the store that is left. Assumes nothing.
-use Rattle.std.specs.Prelude.{ℕ, ◌+◌, ◌*◌, ◌≡◌, true, false, cond, List, [], ◌∷◌, ◌++◌, leb, length, drop}
+use Rattle.std.specs.Prelude.{ℕ, ◌*◌, ◌≡◌, true, false, cond, List, [], ◌∷◌, ◌++◌, leb, length, drop}
 use Rattle.metadata.specs.Answers.{is_applied}
 use Rattle.metadata.specs.Sound.{run, answers}
 use Rattle.metadata.specs.History.{begun}

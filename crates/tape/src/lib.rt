@@ -1,21 +1,18 @@
 #![tactic(auto)]
 
 // The command tape: the run over a whole tape.
-ghost use Rattle.std.specs.Prelude.{◌≡◌, true, ◌*◌, ◌≤◌, ◌<◌, length};
-ghost use Rattle.held.specs.Stores.{Empty};
+ghost use Rattle.metadata.specs.Answers.{is_applied};
+ghost use Rattle.reading.specs.Reader.{open_tape};
+ghost use Rattle.std.specs.Prelude.{◌≡◌, false, length};
 ghost use Rattle.tape.specs.Tape.{ran, ran_out, TapeClaims};
-ghost use Rattle.tape_commands.specs.Commands.{Done};
-ghost use Rattle.reading.specs.Reader.{read_from, lines};
-ghost use Rattle.metadata.specs.Sound.{sound};
 
 use answer_numbers::write_answer;
-use held::{no_nodes, no_placements, no_retirements, no_rows, no_tablets, store_of};
-use metadata::Store;
+use metadata::{Answered, Store};
 use reading::{body_at, count_lines, open_tape};
-use reports::is_applied;
 use tape_commands::run_commands;
 
 // A run of a whole tape: whether the opening was accepted, whether the list was too short for the answers, how many there are, and the store.
+// No field stands for another: all four have their meaning in every run.
 #[derive(Clone, Copy)]
 pub struct Ran {
     pub opened: bool,
@@ -24,73 +21,52 @@ pub struct Ran {
     pub store: Store,
 }
 
-// Inner: the same, from an opened store, whose four large tables have no rows.
-fn run_opened(store: Store, tape: &[u8], at: usize, out: &mut [u64]) -> Store
-    requires { (sound store ≡ true) × Empty store × (4 * lines (read_from tape.now at) ≤ length out.old) }
-    ensures { Done tape.now store at out.old result out.new }
+// A refused opening is the one answer.
+#[tactic(auto, using(crate::proofs::Whole::refusals))]
+fn run_refused(tape: &[u8], opening: Answered, out: &mut [u64]) -> Ran
+    requires { (opening ≡ open_tape tape.now) × (is_applied opening.answer ≡ false) }
+    ensures ran { result ≡ ran tape.now (length out.old) }
+    ensures out { out.new ≡ ran_out tape.now out.old }
 {
-    let mut nodes = no_nodes();
-    let mut tablets = no_tablets();
-    let mut placements = no_placements();
-    let mut retirements = no_retirements();
-    let held = no_rows(store);
-    let last = run_commands(
-        held,
-        &mut nodes,
-        &mut tablets,
-        &mut placements,
-        &mut retirements,
-        tape,
-        at,
-        out,
-    );
-    store_of(last, &nodes, &tablets, &placements, &retirements)
+    let short = out.len() < 4;
+    if !short {
+        write_answer(out, 0, opening.answer);
+    }
+    Ran {
+        opened: false,
+        short,
+        lines: 1,
+        store: opening.store,
+    }
 }
 
 // A whole tape in memory: four numbers for each answer go to the lent list. Too short a list: nothing is run, and nothing is written.
+#[tactic(auto, using(crate::proofs::Whole::runs))]
 fn run_whole(tape: &[u8], out: &mut [u64]) -> Ran
-    ensures { (result ≡ ran tape.now (length out.old)) × (out.new ≡ ran_out tape.now out.old) }
+    ensures ran { result ≡ ran tape.now (length out.old) }
+    ensures out { out.new ≡ ran_out tape.now out.old }
 {
-    let first = open_tape(tape);
-    let answer = first.answer;
-    let store = first.store;
-    if is_applied(answer) {
-        let at = body_at(tape);
-        let lines = count_lines(tape, at);
-        if out.len() / 4 < lines {
-            return Ran {
-                opened: true,
-                short: true,
-                lines,
-                store,
-            };
-        }
-        let last = run_opened(store, tape, at, out);
-        return Ran {
-            opened: true,
-            short: false,
-            lines,
-            store: last,
-        };
+    let opening = open_tape(tape);
+    if !opening.answer.is_applied() {
+        return run_refused(tape, opening, out);
     }
-    if out.len() < 4 {
-        return Ran {
-            opened: false,
-            short: true,
-            lines: 1,
-            store,
-        };
+    let at = body_at(tape);
+    let lines = count_lines(tape, at);
+    let mut store = opening.store;
+    let short = out.len() / 4 < lines;
+    if !short {
+        run_commands(&mut store, tape, at, out);
     }
-    write_answer(out, 0, answer);
     Ran {
-        opened: false,
-        short: false,
-        lines: 1,
+        opened: true,
+        short,
+        lines,
         store,
     }
 }
 
 // The same, with demand 3: where the opening is accepted and the list is long enough, the store is what the history says of the tape's commands and their answers.
+#[tactic(auto, using(crate::proofs::History::run_history))]
 pub fn run(tape: &[u8], out: &mut [u64]) -> Ran
     ensures ran { result ≡ ran tape.now (length out.old) }
     ensures out { out.new ≡ ran_out tape.now out.old }

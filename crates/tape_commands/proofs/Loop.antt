@@ -19,7 +19,7 @@ use Rattle.tape_commands.specs.Commands.{Done}
 use Rattle.answer_numbers.specs.Numbers.{written}
 use Rattle.reading.specs.Reader.{stopped, next_at, read_from, lines, command_at}
 use Rattle.reading.proofs.Reading.{next_end, read_unknown, read_cut}
-use Rattle.turns.proofs.Places.{further_on, turn_ready}
+use Rattle.reading.proofs.Reading.{whole_less, whole_known, whole_fits}
 use Rattle.tape_commands.proofs.Running.{Runs, runs_start, runs_next, next_room, runs_stop, stop-room, runs_end}
 
 -- ---- the loop: the answers so far end at the place
@@ -86,4 +86,4 @@ same_now l s₀ at₀ out₀ s at place out k = k.long
 
 -- for `search running` at each goal of the loop
 pub ruleset running =
-    (loop_start, turn_ready, further_on, loop_sound, loop_room, loop_next, unknown_room, cut_room, unknown_done, cut_done, end_done, over_done, same_after, same_now, rules)
+    (loop_start, whole_known, whole_fits, whole_less, loop_sound, loop_room, loop_next, unknown_room, cut_room, unknown_done, cut_done, end_done, over_done, same_after, same_now, rules)

@@ -7,7 +7,7 @@ use mathlib.Core.List.{List, [], ◌∷◌, ◌++◌}
 use lib.ListN.{length, drop, length-append, length-drop}
 use lib.Seq.{drop-drop}
 use Rattle.metadata.specs.Answers.{reported}
-use Rattle.metadata.specs.Commands.{Command}
+use Rattle.metadata.specs.declared.Command.{Command}
 use Rattle.metadata.specs.Model.{step}
 use Rattle.metadata.specs.Sound.{sound, entry, run, answers}
 use Rattle.metadata.proofs.Theorem.{entry-step, step-sound}

@@ -1,75 +1,40 @@
-#![tactic(auto)]
+#![tactic(auto, using(crate::proofs::Loop::running))]
 
 // The commands of a tape behind its opening, one after the other, their answers written as numbers.
-ghost use Rattle.std.specs.Prelude.{◌≡◌, true, ◌+◌, ◌*◌, ◌≤◌, ◌<◌, length};
-ghost use Rattle.held.specs.Stores.{lent_store, Whole};
-ghost use Rattle.tape_commands.specs.Commands.{Done};
-ghost use Rattle.reading.specs.Reader.{read_from, lines};
 ghost use Rattle.metadata.specs.Sound.{sound};
+ghost use Rattle.reading.specs.Reader.{read_from, lines};
+ghost use Rattle.std.specs.Prelude.{◌≡◌, true, ◌*◌, ◌≤◌, length};
+ghost use Rattle.tape_commands.specs.Commands.{Done};
 
 use answer_numbers::write_answer;
-use held::Held;
-use lent_rows::{NodeRow, PlacementRow, RetirementRow, TabletRow};
-use metadata::Answer;
-use reading::{Next, next_at};
-use turns::take_turn;
+use metadata::{Answer, Store};
+use reading::{Next, command_at, next_at};
+use steps::step;
 
-fn behind(place: usize, room: usize) -> usize
-    requires { place + 4 ≤ room }
-    ensures { result ≡ place + 4 }
+// Inner: `run` shows that the store is sound, and that there is room for every answer.
+pub fn run_commands(store: &mut Store, tape: &[u8], from: usize, out: &mut [u64])
+    requires { (sound store.old ≡ true) × (4 * lines (read_from tape.now from) ≤ length out.old) }
+    ensures { Done tape.now store.old from out.old store.new out.new }
 {
-    place + 4
-}
-
-// Inner: `run` shows that what is held is a sound store with all rows lent, and that there is room for every answer.
-pub fn run_commands(
-    start: Held,
-    nodes: &mut [NodeRow],
-    tablets: &mut [TabletRow],
-    placements: &mut [PlacementRow],
-    retirements: &mut [RetirementRow],
-    tape: &[u8],
-    at: usize,
-    out: &mut [u64],
-) -> Held
-    requires { (sound (lent_store start nodes.old tablets.old placements.old retirements.old) ≡ true) × Whole nodes.old tablets.old placements.old retirements.old × (4 * lines (read_from tape.now at) ≤ length out.old) }
-    ensures { Done tape.now (lent_store start nodes.old tablets.old placements.old retirements.old) at out.old (lent_store result nodes.new tablets.new placements.new retirements.new) out.new × Whole nodes.new tablets.new placements.new retirements.new }
-{
-    let mut held = start;
-    let mut i = at;
+    let mut at = from;
     let mut place: usize = 0;
-    while i < tape.len() {
-        match next_at(tape, i) {
-            Next::Whole(b, m) => {
-                let next = behind(place, out.len());
-                let turn = take_turn(
-                    held,
-                    nodes,
-                    tablets,
-                    placements,
-                    retirements,
-                    b,
-                    tape,
-                    i + 1,
-                );
-                let answer = turn.answer;
+    loop {
+        match next_at(tape, at) {
+            Next::Whole(b, next) => {
+                let answer = step(store, &command_at(b, tape, at + 1));
                 write_answer(out, place, answer);
-                held = turn.held;
-                i = m;
-                place = next;
+                at = next;
+                place += 4;
             }
             Next::Unknown(b) => {
                 write_answer(out, place, Answer::BadTape(1, b));
-                return held;
+                return;
             }
             Next::Cut(b) => {
                 write_answer(out, place, Answer::BadTape(2, b));
-                return held;
+                return;
             }
-            Next::End => {
-                return held;
-            }
+            Next::End => return,
         }
     }
-    held
 }

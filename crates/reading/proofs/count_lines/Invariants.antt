@@ -3,8 +3,8 @@ use lib.ListN.{length}
 use Rattle.reading.proofs.Reading.{Counting}
 use Rattle.reading.proofs.count_lines.Given as goal
 
-abbrev pub invariant-loop-i : goal.invariant-loop-i
-invariant-loop-i l = Counting l.tape l.at l.i l.n
+abbrev pub invariant-loop-next : goal.invariant-loop-next
+invariant-loop-next l = Counting l.tape l.at l.place l.n
 
-abbrev pub decreases-loop-i : goal.decreases-loop-i
-decreases-loop-i l = length l.tape - l.i
+abbrev pub decreases-loop-next : goal.decreases-loop-next
+decreases-loop-next l = length l.tape - l.place

@@ -1,6 +1,5 @@
 use Rattle.tape.proofs.History.{run_history}
-use borrow.Author.Rules.{rules}
 use Rattle.tape.proofs.run.Goals as goal
 
-pub returns : goal.returns
-returns c = search (rules, run_history)
+pub returns-clause-history : goal.returns-clause-history
+returns-clause-history c = run_history _ _ _ c.run_whole.ensures.ran

@@ -1,20 +1,13 @@
-use Rattle.reading.proofs.Opened.{opened_is_sound}
-use Rattle.turns.proofs.Begun.{opened_empty}
-use Rattle.tape.proofs.Whole.{answers_fit, short-run, short_out, whole_run, whole_out, short_refusal, short_refusal_out, refusal_run, refusal_out}
-use borrow.Author.Rules.{rules}
+use Rattle.std.proofs.Common.{◌/◌, length}
+use borrow.Author.Tests.{le-ltb}
+use Rattle.tape.proofs.Whole.{whole_run, whole_out}
 use Rattle.tape.proofs.run_whole.Goals as goal
 
-pub returns-then-out-lines : goal.returns-then-out-lines
-returns-then-out-lines c = search (rules, short-run, short_out)
+pub returns-then-not-short-clause-ran : goal.returns-then-not-short-clause-ran
+returns-then-not-short-clause-ran c =
+    rw (le-ltb (length c.args.out.now / 4) c.count_lines-lines.result c.if-not-short.true)
+    (whole_run _ _ _ c.open_tape-opening.ensures c.is_applied.ensures _ _ _ c.body_at-at.ensures c.count_lines-lines.ensures _ _ c.run_commands.ensures c.if-not-is_applied.false c.if-not-short.true)
 
-pub run_opened-last-requires : goal.run_opened-last-requires
-run_opened-last-requires c = search (rules, opened_is_sound, opened_empty, answers_fit)
-
-pub returns-then-is_applied : goal.returns-then-is_applied
-returns-then-is_applied c = search (rules, whole_run, whole_out)
-
-pub returns-then-out-lt4 : goal.returns-then-out-lt4
-returns-then-out-lt4 c = search (rules, short_refusal, short_refusal_out)
-
-pub returns : goal.returns
-returns c = search (rules, refusal_run, refusal_out)
+pub returns-then-not-short-clause-out : goal.returns-then-not-short-clause-out
+returns-then-not-short-clause-out c =
+    whole_out _ _ _ c.open_tape-opening.ensures c.is_applied.ensures _ _ _ c.body_at-at.ensures c.count_lines-lines.ensures _ _ c.run_commands.ensures c.if-not-is_applied.false c.if-not-short.true

@@ -1,6 +1,0 @@
-use borrow.Author.Rules.{rules}
-use Rattle.laws.proofs.Bools.{and_both}
-use Rattle.admission.proofs.keys_admitted.Goals as goal
-
-pub returns : goal.returns
-returns c = search (rules, and_both)

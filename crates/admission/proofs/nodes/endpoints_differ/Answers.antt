@@ -1,0 +1,9 @@
+-- The endpoints are compared where they stand.
+use Rattle.std.proofs.Common.{rules}
+use Rattle.laws.specs.Lists.{none_twice}
+use Rattle.metadata.specs.Texts.{same_name}
+use Rattle.admission.proofs.nodes.endpoints_differ.Goals as goal
+
+pub returns : goal.returns
+unfolding none_twice
+returns c = c.none_twice.ensures (λ a b. same_name a.now b.now) (λ a b r h. search rules)

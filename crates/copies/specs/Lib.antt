@@ -1,3 +1,0 @@
--- The definitions that this crate adds to those of `metadata`. Assumes nothing.
-pub mod Copies
-pub mod Standing

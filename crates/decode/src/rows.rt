@@ -1,0 +1,146 @@
+// Rows read from a lent slice, field by field.
+ghost use Rattle.decode.specs.Decode.{node_at, tablet_at, replica_at, placement_at, retirement_at, table_at, list_at, node_id_at};
+ghost use Rattle.metadata.specs.Rooms.{replica_room, table_room};
+ghost use Rattle.std.specs.Prelude.{◌≡◌, ◌+◌, ◌*◌, ◌≤◌, length, take};
+
+use crate::{number4, number8, optional_at, text_at};
+use metadata::{
+    DesiredReplica, DesiredReplicaPlacement, NodeDescriptor, NodeId, PartitionSpec,
+    PlacementPolicy, REPLICA_ROOM, RaftGroupId, ReplicaId, RetiredReplicaLifetime, TABLE_ROOM,
+    TableId, TableRow, TabletDescriptor, TabletId,
+};
+use std::array;
+use table::Row;
+
+pub fn node_at(s: &[u8], at: usize) -> NodeDescriptor
+    requires { at + 305 ≤ length s.now }
+    ensures { result ≡ node_at s.now at }
+{
+    NodeDescriptor {
+        node_id: NodeId(number8(s, at)),
+        raft_addr: text_at(s, at + 8),
+        snapshot_addr: text_at(s, at + 57),
+        sql_addr: text_at(s, at + 106),
+        admin_addr: text_at(s, at + 155),
+        region: optional_at(s, at + 204),
+        zone: optional_at(s, at + 229),
+        rack: optional_at(s, at + 254),
+        storage_class: text_at(s, at + 279),
+        lifecycle: s[at + 304],
+    }
+}
+
+fn partition_at(s: &[u8], at: usize) -> PartitionSpec
+    requires { at + 107 ≤ length s.now }
+    ensures { result ≡ (tablet_at s.now at).partition }
+{
+    PartitionSpec {
+        kind: s[at + 32],
+        bucket: number4(s, at + 33),
+        bucket_count: number4(s, at + 37),
+        start_key: text_at(s, at + 41),
+        end_key: text_at(s, at + 74),
+    }
+}
+
+pub fn tablet_at(s: &[u8], at: usize) -> TabletDescriptor
+    requires { at + 107 ≤ length s.now }
+    ensures { result ≡ tablet_at s.now at }
+{
+    TabletDescriptor {
+        tablet_id: TabletId(number8(s, at)),
+        table_id: TableId(number8(s, at + 8)),
+        raft_group_id: RaftGroupId(number8(s, at + 16)),
+        tablet_epoch: number8(s, at + 24),
+        partition: partition_at(s, at),
+    }
+}
+
+pub fn replica_at(s: &[u8], at: usize) -> DesiredReplica
+    requires { at + 17 ≤ length s.now }
+    ensures { result ≡ replica_at s.now at }
+{
+    DesiredReplica {
+        replica_id: ReplicaId(number8(s, at)),
+        node_id: NodeId(number8(s, at + 8)),
+        role: s[at + 16],
+    }
+}
+
+fn replicas_at(s: &[u8], at: usize) -> [DesiredReplica; REPLICA_ROOM]
+    requires { at + 119 ≤ length s.now }
+    ensures { result ≡ list_at replica_at 17 replica_room s.now at }
+{
+    array::from_fn(|i| replica_at(s, at + 17 * i))
+}
+
+fn leaders_at(s: &[u8], at: usize) -> [NodeId; REPLICA_ROOM]
+    requires { at + 56 ≤ length s.now }
+    ensures { result ≡ list_at node_id_at 8 replica_room s.now at }
+{
+    array::from_fn(|i| NodeId(number8(s, at + 8 * i)))
+}
+
+fn policy_at(s: &[u8], at: usize) -> PlacementPolicy
+    requires { at + 234 ≤ length s.now }
+    ensures { result ≡ (placement_at s.now at).placement_policy }
+{
+    PlacementPolicy {
+        replication_factor: number4(s, at + 136),
+        min_distinct_regions: number4(s, at + 140),
+        min_distinct_zones: number4(s, at + 144),
+        min_distinct_racks: number4(s, at + 148),
+        required_storage_class: optional_at(s, at + 152),
+        preferred_leader_count: s[at + 177],
+        preferred_leader_nodes: leaders_at(s, at + 178),
+    }
+}
+
+pub fn placement_at(s: &[u8], at: usize) -> DesiredReplicaPlacement
+    requires { at + 234 ≤ length s.now }
+    ensures { result ≡ placement_at s.now at }
+{
+    DesiredReplicaPlacement {
+        tablet_id: TabletId(number8(s, at)),
+        configuration_epoch: number8(s, at + 8),
+        replica_count: s[at + 16],
+        replicas: replicas_at(s, at + 17),
+        placement_policy: policy_at(s, at),
+    }
+}
+
+pub fn retirement_at(s: &[u8], at: usize) -> RetiredReplicaLifetime
+    requires { at + 48 ≤ length s.now }
+    ensures { result ≡ retirement_at s.now at }
+{
+    RetiredReplicaLifetime {
+        raft_group_id: RaftGroupId(number8(s, at)),
+        replica_id: ReplicaId(number8(s, at + 8)),
+        desired_configuration_epoch: number8(s, at + 16),
+        removed_conf_state_version: number8(s, at + 24),
+        removal_index: number8(s, at + 32),
+        removal_term: number8(s, at + 40),
+    }
+}
+
+pub fn table_at(s: &[u8], at: usize) -> TableRow
+    requires { at + 12 ≤ length s.now }
+    ensures { result ≡ table_at s.now at }
+{
+    TableRow {
+        table_id: TableId(number8(s, at)),
+        tablet_count: number4(s, at + 8),
+    }
+}
+
+// The first count rows are those of the bytes, one behind the other; the rest are rows of zeros.
+pub fn tables_at(s: &[u8], at: usize, count: usize) -> [TableRow; TABLE_ROOM]
+    requires { (count ≤ table_room) × (at + 12 * count ≤ length s.now) }
+    ensures { take count result ≡ list_at table_at 12 count s.now at }
+{
+    let mut rows = [TableRow::zero(); TABLE_ROOM];
+    for (i, row) in rows[..count].iter_mut().enumerate() {
+        *row = table_at(s, at + 12 * i);
+    }
+    rows
+}

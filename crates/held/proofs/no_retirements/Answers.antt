@@ -1,7 +1,0 @@
-use borrow.Author.Rules.{rules}
-use Rattle.lent_rows.specs.Lent.{retirement_row}
-use Rattle.held.proofs.Rows.{all_same}
-use Rattle.held.proofs.no_retirements.Goals as goal
-
-pub returns : goal.returns
-returns c = search (rules, all_same retirement_row)

@@ -1,9 +1,0 @@
-use borrow.Author.Rules.{rules}
-use Rattle.laws.proofs.Rows.{length_mapped}
-use Rattle.metadata.specs.Tables.{blank_node}
-use Rattle.metadata.specs.declared.NodeDescriptor.{NodeDescriptor}
-use Rattle.labels.proofs.Places.{three_labels}
-use Rattle.labels.proofs.regions_of.Goals as goal
-
-pub returns : goal.returns
-returns c = search (length_mapped, three_labels (λ (n : NodeDescriptor). n.region) blank_node, rules)

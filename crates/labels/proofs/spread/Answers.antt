@@ -1,4 +1,0 @@
-use Rattle.labels.proofs.spread.Goals as goal
-
-pub returns : goal.returns
-returns c = rw c.no_label-none.ensures

@@ -1,4 +1,0 @@
-use Rattle.lent_nodes.proofs.node_after.Goals as goal
-
-pub returns : goal.returns
-returns c = rw (← c.node_key.ensures)

@@ -1,6 +1,0 @@
-use borrow.Author.Rules.{rules}
-use Rattle.lent_rows.proofs.Fields.{retirement_group_got}
-use Rattle.lent_rows.proofs.retirement_group.Goals as goal
-
-pub returns : goal.returns
-returns c = search (rules, retirement_group_got)

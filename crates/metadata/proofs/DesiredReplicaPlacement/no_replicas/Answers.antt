@@ -1,0 +1,10 @@
+use Rattle.std.proofs.Common.{◌∙◌}
+use Rattle.laws.proofs.Fills.{filled_is}
+use Rattle.metadata.specs.Rooms.{replica_room}
+use Rattle.metadata.specs.Tables.{same_replica, zero_replica}
+use Rattle.text.specs.Texts.{all_zero}
+use Rattle.metadata.proofs.DesiredReplicaPlacement.no_replicas.Goals as goal
+
+pub returns : goal.returns
+unfolding all_zero
+returns c = rw c.zero.ensures at c.eq.ensures ∙ filled_is same_replica zero_replica c.args.self.now.replicas replica_room

@@ -1,0 +1,30 @@
+-- A check on each element in turn, as a loop: what is left of the list decides.
+use Rattle.std.specs.Prelude.{◌≡◌, ℕ, ◌+◌, ◌<◌, ◌≤◌, false, List, length, get_or, drop}
+use Rattle.std.proofs.Common.{refl, ◌∙◌, add-one}
+use lib.Seq.{drop-cons}
+use lib.ListN.{drop_of_length-le}
+use Rattle.metadata.specs.Answers.{is_applied, and_then, each}
+use Rattle.metadata.specs.declared.Answer.{Answer}
+use Rattle.metadata.specs.declared.Answer.TheVariants as A
+
+-- the elements before place i passed
+pub record EachFrom {X : Type 0} (f : X → Answer) (xs : List X) (i : ℕ) : Type 0 where
+  pub left : each f xs ≡ each f (drop i xs)
+
+module _ {X : Type 0} {f : X → Answer} {xs : List X} where
+  pub each_start : EachFrom f xs 0
+  each_start = record { left = refl }
+
+  pub each_next : {i : ℕ} (d : X) → EachFrom f xs i → i < length xs → f (get_or xs i d) ≡ A.Applied → EachFrom f xs (i + 1)
+  unfolding each and_then
+  each_next {i} d h k e = record { left = h.left ∙ rw (drop-cons xs i d k, e, add-one) }
+
+  pub each_stop : {i : ℕ} (d : X) {a : Answer} → EachFrom f xs i → i < length xs → f (get_or xs i d) ≡ a → is_applied a ≡ false → each f xs ≡ a
+  unfolding each and_then
+  each_stop {i} d h k e q = h.left ∙ rw (drop-cons xs i d k, e, q)
+
+  pub each_end : {i : ℕ} → EachFrom f xs i → length xs ≤ i → each f xs ≡ A.Applied
+  unfolding each
+  each_end {i} h k = h.left ∙ rw (drop_of_length-le xs {i = i} k)
+
+pub ruleset each_rules = (each_start, each_next, each_stop, each_end)

@@ -1,3 +1,0 @@
--- The laws that belong to no one function. Assumes nothing.
-pub mod Decision
-pub mod Naming

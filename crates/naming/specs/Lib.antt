@@ -1,2 +1,0 @@
--- The definitions of this crate. Assumes nothing.
-pub mod Steps

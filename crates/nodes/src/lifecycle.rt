@@ -1,0 +1,121 @@
+// Lifecycle: a node moves one step forward at a time, and leaves only when no tablet expects it.
+ghost use Rattle.metadata.specs.Answers.{Gives, each};
+ghost use Rattle.metadata.specs.Model.{view_nodes, view_tablets, view_placements};
+ghost use Rattle.metadata.specs.Nodes.{lifecycle_can_advance, expected_at, still_expected, judge_lifecycle};
+ghost use Rattle.metadata.specs.Tables.{desired};
+ghost use Rattle.nodes.specs.Steps.{expected_of, leaves, judge_move};
+ghost use Rattle.std.specs.Prelude.{◌≡◌};
+
+use metadata::{
+    Answer, DesiredReplica, DesiredReplicaPlacement, NodeDescriptor, NodeId, NodeLifecycle, Nodes,
+    Placements, TabletDescriptor, Tablets,
+};
+
+// Only one step forward; no move from or to what is no station.
+#[tactic(auto, using(crate::proofs::Advance::by_stations))]
+pub fn lifecycle_can_advance(from: u8, to: u8) -> bool
+    ensures { result ≡ lifecycle_can_advance from to }
+{
+    match (
+        NodeLifecycle::from_number(from),
+        NodeLifecycle::from_number(to),
+    ) {
+        (Some(a), Some(b)) => a.can_advance(b),
+        _ => false,
+    }
+}
+
+// A node leaves where it is Decommissioned or Tombstoned: then no tablet may expect it.
+fn leaves(to: u8) -> bool
+    ensures { result ≡ leaves to }
+{
+    matches!(
+        NodeLifecycle::from_number(to),
+        Some(NodeLifecycle::Decommissioned | NodeLifecycle::Tombstoned)
+    )
+}
+
+// The copy does not stand on the node.
+#[tactic(auto, unfolding(metadata::specs::Answers::refuse))]
+fn expected_on(k: NodeId, t: &TabletDescriptor, r: &DesiredReplica) -> Result<(), Answer>
+    ensures { Gives result (expected_at k t.now r.now) }
+{
+    if r.node_id == k {
+        return Err(Answer::NodeStillExpected(k, t.raft_group_id, r.replica_id));
+    }
+    Ok(())
+}
+
+// No copy of the placement stands on the node.
+#[tactic(auto, using(metadata::proofs::Each::each_rules))]
+fn expected_in(k: NodeId, t: &TabletDescriptor, p: &DesiredReplicaPlacement) -> Result<(), Answer>
+    ensures { Gives result (each (expected_at k t.now) (desired p.now)) }
+{
+    for r in p.desired() {
+        expected_on(k, t, r)?;
+    }
+    Ok(())
+}
+
+// No copy of the tablet stands on the node; without a placement there is none.
+#[tactic(auto, unfolding(crate::specs::Steps::expected_of, metadata::specs::Answers::each), using(crate::proofs::Known::placement_there, crate::proofs::Known::no_placement))]
+fn expected_of(k: NodeId, t: &TabletDescriptor, placements: &Placements) -> Result<(), Answer>
+    ensures { Gives result (expected_of k (view_placements placements.now) t.now) }
+{
+    match placements.get(t.tablet_id) {
+        Some(p) => expected_in(k, t, p),
+        None => Ok(()),
+    }
+}
+
+// No copy stands on the node: asked by tablet id, then in the placement's order.
+#[tactic(auto, using(metadata::proofs::Each::each_rules, crate::proofs::Known::by_tablet))]
+pub fn still_expected(k: NodeId, tablets: &Tablets, placements: &Placements) -> Result<(), Answer>
+    ensures { Gives result (still_expected k (view_tablets tablets.now) (view_placements placements.now)) }
+{
+    for t in tablets.used() {
+        expected_of(k, t, placements)?;
+    }
+    Ok(())
+}
+
+// Whether a node that is known may move there, by its row; who expects it is asked only where it leaves.
+#[tactic(auto, unfolding(crate::specs::Steps::judge_move, metadata::specs::Answers::refuse, metadata::specs::Answers::and_then))]
+pub fn judge_move(
+    old: &NodeDescriptor,
+    tablets: &Tablets,
+    placements: &Placements,
+    k: NodeId,
+    to: u8,
+) -> Result<(), Answer>
+    ensures { Gives result (judge_move old.now (view_tablets tablets.now) (view_placements placements.now) k to) }
+{
+    let from = old.lifecycle;
+    if from == to {
+        return Err(Answer::AlreadyApplied);
+    }
+    if !lifecycle_can_advance(from, to) {
+        return Err(Answer::InvalidNodeLifecycleTransition(k, from, to));
+    }
+    if leaves(to) {
+        return still_expected(k, tablets, placements);
+    }
+    Ok(())
+}
+
+// The same by its id.
+#[tactic(auto, unfolding(metadata::specs::Answers::refuse, metadata::specs::Answers::and_then), using(crate::proofs::Known::lifecycle_by_row, crate::proofs::Known::node_there))]
+pub fn judge_lifecycle(
+    nodes: &Nodes,
+    tablets: &Tablets,
+    placements: &Placements,
+    k: NodeId,
+    to: u8,
+) -> Result<(), Answer>
+    ensures { Gives result (judge_lifecycle (view_nodes nodes.now) (view_tablets tablets.now) (view_placements placements.now) k to) }
+{
+    let Some(old) = nodes.get(k) else {
+        return Err(Answer::UnknownNode(k));
+    };
+    judge_move(old, tablets, placements, k, to)
+}

@@ -1,0 +1,67 @@
+// Registering: a new node brings endpoints that no other has, a known one may only move on.
+ghost use Rattle.metadata.specs.Answers.{Gives};
+ghost use Rattle.metadata.specs.Model.{view_nodes, view_tablets, view_placements};
+ghost use Rattle.metadata.specs.Nodes.{judge_new_node, judge_registering};
+ghost use Rattle.nodes.specs.Steps.{judge_known_row};
+
+use crate::clashes::clash;
+use crate::lifecycle::judge_move;
+use metadata::{Answer, NODE_ROOM, NodeDescriptor, Nodes, Placements, Tablets};
+
+// In refusal 15, where a node that is new comes from.
+const UNREGISTERED: u8 = 5;
+
+// In refusal 39, the table of the nodes.
+const NODE_TABLE: u8 = 0;
+
+// A node whose id is new: its endpoints clash with none, it is Active, and a row is left.
+#[tactic(auto, unfolding(metadata::specs::Nodes::judge_new_node, metadata::specs::Answers::refuse, metadata::specs::Answers::and_then))]
+pub fn judge_new_node(nodes: &Nodes, n: &NodeDescriptor) -> Result<(), Answer>
+    ensures { Gives result (judge_new_node (view_nodes nodes.now) n.now) }
+{
+    if let Some(c) = clash(n, nodes) {
+        return Err(Answer::NodeEndpointConflict(c.node_id, n.node_id, c.field));
+    }
+    if !n.is_active() {
+        return Err(Answer::InvalidNodeLifecycleTransition(n.node_id, UNREGISTERED, n.lifecycle));
+    }
+    if NODE_ROOM <= nodes.used().len() {
+        return Err(Answer::TableFull(NODE_TABLE, NODE_ROOM as u64));
+    }
+    Ok(())
+}
+
+// A node that is known, against its row: the same record, another directory, or a move.
+#[tactic(auto, unfolding(crate::specs::Steps::judge_known_row, metadata::specs::Answers::refuse, metadata::specs::Answers::and_then))]
+fn judge_known_node(
+    old: &NodeDescriptor,
+    tablets: &Tablets,
+    placements: &Placements,
+    n: &NodeDescriptor,
+) -> Result<(), Answer>
+    ensures { Gives result (judge_known_row old.now (view_tablets tablets.now) (view_placements placements.now) n.now) }
+{
+    if old.is_same(n) {
+        return Err(Answer::AlreadyApplied);
+    }
+    if !old.same_directory(n) {
+        return Err(Answer::NodeIdConflict(n.node_id));
+    }
+    judge_move(old, tablets, placements, n.node_id, n.lifecycle)
+}
+
+// By its id: a node that is known, or a new one.
+#[tactic(auto, unfolding(metadata::specs::Nodes::judge_registering), using(crate::proofs::Known::known_by_row, crate::proofs::Known::node_there))]
+pub fn judge_registering(
+    nodes: &Nodes,
+    tablets: &Tablets,
+    placements: &Placements,
+    n: &NodeDescriptor,
+) -> Result<(), Answer>
+    ensures { Gives result (judge_registering (view_nodes nodes.now) (view_tablets tablets.now) (view_placements placements.now) n.now) }
+{
+    match nodes.get(n.node_id) {
+        Some(old) => judge_known_node(old, tablets, placements, n),
+        None => judge_new_node(nodes, n),
+    }
+}

@@ -1,0 +1,6 @@
+use Rattle.metadata.specs.Model.{view_placements}
+use Rattle.placements.proofs.Looked.{stored_got}
+use Rattle.placements.proofs.stored_placement.Goals as goal
+
+pub returns : goal.returns
+returns c = stored_got (λ q. q.now) c.args.tablet.0 (view_placements c.args.placements.now) c.get.result c.get.ensures

@@ -1,0 +1,123 @@
+#![tactic(auto)]
+
+// Where each copy and each preferred leader of a tablet may stand (document 01, refusals 17 and 26 to 28).
+ghost use Rattle.metadata.specs.Answers.{Gives, each};
+ghost use Rattle.metadata.specs.Model.{view_nodes, view_retirements};
+ghost use Rattle.metadata.specs.Placements.{stands_already, eligible, class_differs, judge_replica, judge_leader, hosts};
+ghost use Rattle.metadata.specs.Tables.{node_of, desired, leaders};
+ghost use Rattle.placements.specs.Hosts.{HandsOn, nodes_of};
+ghost use Rattle.std.specs.Prelude.{◌≡◌};
+
+use crate::hosts::{Hosts, replicas_of};
+use metadata::{
+    Answer, DesiredReplica, DesiredReplicaPlacement, NodeDescriptor, NodeId, NodeLifecycle, Nodes,
+    OptionalLabel, PlacementPolicy, REPLICA_ROOM, RaftGroupId, ReplicaKey, Retirements,
+};
+
+// The same replica stands on the same node already.
+#[tactic(auto, unfolding(metadata::specs::Placements::stands_already))]
+fn stands_already(r: &DesiredReplica, old: &[DesiredReplica]) -> bool
+    ensures { result ≡ stands_already r.now old.now }
+{
+    old.iter()
+        .any(|o| o.replica_id == r.replica_id && o.node_id == r.node_id)
+}
+
+// Active, or Draining or Decommissioning if the replica stands there already.
+#[tactic(auto, unfolding(metadata::specs::Placements::eligible))]
+fn eligible(lifecycle: u8, stands: bool) -> bool
+    ensures { result ≡ eligible lifecycle stands }
+{
+    match NodeLifecycle::from_number(lifecycle) {
+        Some(NodeLifecycle::Active) => true,
+        Some(NodeLifecycle::Draining | NodeLifecycle::Decommissioning) => stands,
+        _ => false,
+    }
+}
+
+// A required class that is present and not the node's.
+#[tactic(auto, unfolding(metadata::specs::Placements::class_differs))]
+fn class_differs(class: &OptionalLabel, n: &NodeDescriptor) -> bool
+    ensures { result ≡ class_differs class.now n.now }
+{
+    class.present && n.storage_class != class.text
+}
+
+// 17, 26, 27 and 28, for one replica; `old` are the replicas of the stored placement. It hands on the replica's node, so that no one looks it up again.
+#[tactic(auto, unfolding(metadata::specs::Placements::judge_replica, metadata::specs::Answers::refuse, metadata::specs::Answers::and_then, metadata::specs::Tablets::is_replica_retired), using(crate::proofs::Found::node_found))]
+fn judge_replica<'a>(
+    nodes: &'a Nodes,
+    retirements: &Retirements,
+    old: &[DesiredReplica],
+    group: RaftGroupId,
+    class: &OptionalLabel,
+    r: &DesiredReplica,
+) -> Result<&'a NodeDescriptor, Answer>
+    ensures { HandsOn result (judge_replica (view_nodes nodes.now) (view_retirements retirements.now) old.now group class.now r.now) (λ n. n.now ≡ node_of r.now.node_id.0 (view_nodes nodes.now)) }
+{
+    let Some(n) = nodes.get(r.node_id) else {
+        return Err(Answer::UnknownNode(r.node_id));
+    };
+    if !eligible(n.lifecycle, stands_already(r, old)) {
+        return Err(Answer::NodeNotEligible(r.node_id, n.lifecycle));
+    }
+    if class_differs(class, n) {
+        return Err(Answer::PlacementStorageClassMismatch(r.node_id));
+    }
+    let key = ReplicaKey {
+        raft_group_id: group,
+        replica_id: r.replica_id,
+    };
+    if retirements.contains(key) {
+        return Err(Answer::RetiredReplicaReuse(group, r.replica_id));
+    }
+    Ok(n)
+}
+
+// 17 and 26, for one preferred leader: it is there, and Active.
+#[tactic(auto, unfolding(metadata::specs::Placements::judge_leader, metadata::specs::Answers::refuse, metadata::specs::Answers::and_then), using(crate::proofs::Found::node_found))]
+fn judge_leader(nodes: &Nodes, k: NodeId) -> Result<(), Answer>
+    ensures { Gives result (judge_leader (view_nodes nodes.now) k) }
+{
+    let Some(n) = nodes.get(k) else {
+        return Err(Answer::UnknownNode(k));
+    };
+    let lifecycle = n.lifecycle;
+    if !n.is_active() {
+        return Err(Answer::NodeNotEligible(k, lifecycle));
+    }
+    Ok(())
+}
+
+#[tactic(auto, using(metadata::proofs::Each::each_rules))]
+pub fn judge_leaders(nodes: &Nodes, q: &PlacementPolicy) -> Result<(), Answer>
+    ensures { Gives result (each (judge_leader (view_nodes nodes.now)) (leaders q.now)) }
+{
+    for k in q.leaders() {
+        judge_leader(nodes, *k)?;
+    }
+    Ok(())
+}
+
+// The same for each replica, in turn. Places past the replicas keep the table's first row, which no one reads.
+#[tactic(auto, using(crate::proofs::Hosting::hosting))]
+pub fn judge_replicas<'a>(
+    nodes: &'a Nodes,
+    retirements: &Retirements,
+    old: &[DesiredReplica],
+    group: RaftGroupId,
+    p: &DesiredReplicaPlacement,
+) -> Result<Hosts<'a>, Answer>
+    ensures { HandsOn result (each (judge_replica (view_nodes nodes.now) (view_retirements retirements.now) old.now group p.now.placement_policy.required_storage_class) (desired p.now)) (λ on. nodes_of on ≡ hosts (view_nodes nodes.now) (desired p.now)) }
+{
+    let mut on = Hosts {
+        count: 0,
+        nodes: [&nodes.rows[0]; REPLICA_ROOM],
+    };
+    for r in replicas_of(p) {
+        let class = &p.placement_policy.required_storage_class;
+        on.nodes[on.count] = judge_replica(nodes, retirements, old, group, class, r)?;
+        on.count += 1;
+    }
+    Ok(on)
+}

@@ -1,9 +1,0 @@
-use borrow.Author.Rules.{rules}
-use Rattle.laws.specs.Tests.{all_of}
-use Rattle.metadata.specs.Tables.{same_partition}
-use Rattle.laws.proofs.Bools.{and_both}
-use Rattle.records.proofs.same_partition.Goals as goal
-
-pub returns : goal.returns
-unfolding same_partition all_of
-returns c = search (rules, and_both)

@@ -1,7 +1,0 @@
-use borrow.Author.Rules.{rules}
-use Rattle.laws.proofs.Rows.{length_mapped}
-use Rattle.rows.proofs.Lookup.{full_test}
-use Rattle.retirements.proofs.retirements_full.Goals as goal
-
-pub returns : goal.returns
-returns c = search (length_mapped, full_test, rules)

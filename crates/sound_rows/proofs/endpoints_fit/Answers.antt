@@ -1,6 +1,0 @@
-use borrow.Author.Rules.{rules}
-use Rattle.laws.proofs.Bools.{and_both, and_last}
-use Rattle.sound_rows.proofs.endpoints_fit.Goals as goal
-
-pub returns : goal.returns
-returns c = search (rules, and_both, and_last)

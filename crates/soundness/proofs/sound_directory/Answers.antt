@@ -1,9 +1,0 @@
-use borrow.Author.Rules.{rules}
-use Rattle.laws.specs.Tests.{all_of}
-use Rattle.metadata.specs.Sound.{sound_directory}
-use Rattle.laws.proofs.Bools.{and_both}
-use Rattle.soundness.proofs.sound_directory.Goals as goal
-
-pub returns : goal.returns
-unfolding sound_directory all_of
-returns c = search (rules, and_both)

@@ -1,7 +1,0 @@
-use borrow.Author.Rules.{rules}
-use Rattle.laws.proofs.Rows.{length_mapped}
-use Rattle.soundness.proofs.Whole.{table-sound}
-use Rattle.soundness.proofs.sound_retirements.Goals as goal
-
-pub returns : goal.returns
-returns c = search (length_mapped, rules, table-sound)

@@ -1,6 +1,0 @@
-use borrow.Author.Rules.{rules}
-use Rattle.laws.proofs.Bools.{and_both}
-use Rattle.tablet_checks.proofs.holds_bucket.Goals as goal
-
-pub returns : goal.returns
-returns c = search (rules, and_both)

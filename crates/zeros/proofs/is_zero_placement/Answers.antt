@@ -1,9 +1,0 @@
-use borrow.Author.Rules.{rules}
-use Rattle.laws.specs.Tests.{all_of}
-use Rattle.metadata.specs.Tables.{is_zero_placement}
-use Rattle.laws.proofs.Bools.{and_both}
-use Rattle.zeros.proofs.is_zero_placement.Goals as goal
-
-pub returns : goal.returns
-unfolding is_zero_placement all_of
-returns c = search (rules, and_both)
