@@ -328,10 +328,10 @@ def point3(t):
 # ---- 4: equality, order, copies, conversion and printing by hand
 
 BY_NAME = [
-    ("equality", r"^same_|^shares_|_is$|^has_ids$|^is_stored$"),
-    ("is-zero", r"^is_zero_|^is_no_|^(ids|replicas)_clear$|^no_(ids|replicas)$|^zero_inside$|^is_unset$"),
-    ("zero", r"^zero_|^no_(name|label|marks|node|table|tablet|placement|retirement)s?$|^nothing_found$|^none_chosen$"),
-    ("order", r"^comes_before$|_after$(?<!marks_after)|^key_le$|^better$"),
+    ("equality", r"^same_|^shares_|_is$|^has_ids$|^is_stored$|^is_same$|^shares$|^eq$|^has_key$|^is_same_key$"),
+    ("is-zero", r"^is_zero_|^is_no_|^(ids|replicas)_clear$|^no_(ids|replicas)$|^zero_inside$|^is_unset$|^is_zero$|^is_none$|^no_(leaders|replicas)$"),
+    ("zero", r"^zero$|^none$|^zero_|^no_(name|label|marks|node|table|tablet|placement|retirement)s?$|^nothing_found$|^none_chosen$"),
+    ("order", r"^comes_before$|_after$(?<!marks_after)|^key_le$|^better$|^is_before$|^is_better$"),
     ("min-max", r"^larger$|^clamped$|^within_room$|^used$"),
     ("conversion", r"^wide|^count_of$|^low$|^number$|^number[48]$|^place$|^looked$|^one$|^first_line$|^placement_ids$|^(node|tablet|placement|retirement)_(row|bytes)$"
                    r"|^(nodes|tablets|placements|retirements|store)_of$|^with_operands$|^report$|^write_answer$"),
@@ -344,7 +344,7 @@ BY_NAME = [
 def point4(t):
     for f in t.fns:
         for kind, rule in BY_NAME:
-            if re.search(rule, f.name) and f.name != "put_placement" and (kind != "decoding" or f.crate in ("decode", "decode_rows")):
+            if re.search(rule, f.name) and f.name != "put_placement" and (kind != "printing" or f.crate != "table") and (kind != "decoding" or f.crate in ("decode", "decode_rows")):
                 put(4, f, kind, f.name)
                 break
         # ids compared by their number

@@ -1,4 +1,4 @@
-//! How deep the library's functions use the stack: a thread runs them on a painted one.
+//! How deep the library's functions use the stack: a thread runs them on a stack that was filled with a known byte.
 
 use std::alloc::{Layout, alloc, dealloc};
 use std::ffi::{c_int, c_void};
@@ -6,7 +6,7 @@ use std::ptr;
 
 /// More than any call takes; the thread's own needs are at its upper end.
 const ROOM: usize = 16 << 20;
-const PAINT: u8 = 0xA5;
+const FILL: u8 = 0xA5;
 
 /// glibc's pthread_attr_t has 56 bytes; more do no harm.
 #[repr(C, align(16))]
@@ -51,7 +51,7 @@ pub fn deepest(work: &mut dyn FnMut()) -> usize {
     unsafe {
         let lowest = alloc(layout);
         assert!(!lowest.is_null());
-        ptr::write_bytes(lowest, PAINT, ROOM);
+        ptr::write_bytes(lowest, FILL, ROOM);
         let mut attributes = Attributes([0; 128]);
         let mut thread = 0;
         assert_eq!(pthread_attr_init(&mut attributes), 0);
@@ -64,11 +64,11 @@ pub fn deepest(work: &mut dyn FnMut()) -> usize {
             0
         );
         assert_eq!(pthread_join(thread, ptr::null_mut()), 0);
-        let painted = std::slice::from_raw_parts(lowest, ROOM)
+        let untouched = std::slice::from_raw_parts(lowest, ROOM)
             .iter()
-            .take_while(|byte| **byte == PAINT)
+            .take_while(|byte| **byte == FILL)
             .count();
-        let deepest = lowest.addr() + painted;
+        let deepest = lowest.addr() + untouched;
         dealloc(lowest, layout);
         work.from - deepest
     }

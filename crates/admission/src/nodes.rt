@@ -11,7 +11,7 @@ use crate::texts::{endpoint_admitted, label_admitted, optional_admitted};
 use lists::none_twice;
 use metadata::{NodeDescriptor, NodeId};
 
-// Reason 5: "lifecycle above 4".
+// Reason 5: "lifecycle above 4". A byte is compared, since a command may bring any.
 const LAST_LIFECYCLE: u8 = 4;
 
 fn endpoints_admitted(n: &NodeDescriptor) -> bool
@@ -64,6 +64,7 @@ pub fn admit_node(n: &NodeDescriptor) -> Result<(), Reason>
     Ok(())
 }
 
+// Any byte may come as a lifecycle, and 4 is the last that document 01 admits; a type that held no other could not be refused by a reason.
 pub fn admit_lifecycle(k: NodeId, to: u8) -> Result<(), Reason>
     ensures { reason_of result ≡ lowest (lifecycle_faults k to) }
 {

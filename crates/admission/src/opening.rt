@@ -8,6 +8,7 @@ ghost use Rattle.metadata.specs.Commands.{opening_admitted, same_table_id};
 use lists::none_twice;
 use metadata::{TABLE_ROOM, TableRow};
 
+// A call of `none_twice`, by the name that reason 10 has for it.
 fn no_table_twice(rows: &[TableRow]) -> bool
     ensures { result ≡ none_twice same_table_id rows.now }
 {
@@ -38,6 +39,7 @@ pub fn opening_admitted(rows: &[TableRow]) -> bool
 }
 
 // The same of the first `count` rows, where so many there can be.
+// The opening brings a count beside the rows, and one above the room is refused.
 pub fn opening_rows_admitted(rows: &[TableRow; TABLE_ROOM], count: usize) -> bool
     ensures { result ≡ cond (leb count table_room) (opening_admitted (take count rows.now)) false }
 {

@@ -11,16 +11,17 @@ use crate::texts::optional_admitted;
 use lists::none_twice;
 use metadata::{DesiredReplica, DesiredReplicaPlacement, NodeId, PlacementPolicy, REPLICA_ROOM};
 
-// Reason 5: "a used role or partition kind above 1".
+// Reason 5: "a used role or partition kind above 1". A byte is compared, since a command may bring any.
 const LAST_ROLE: u8 = 1;
 
+// No number and no host stands twice (reason 7), and no leader (reason 9): a call of `none_twice` each, by the name that the reason has for it.
 fn no_replica_twice(replicas: &[DesiredReplica]) -> bool
     ensures { result ≡ none_twice same_replica_id replicas.now }
 {
     none_twice(replicas, |a, b| a.replica_id == b.replica_id)
 }
 
-fn no_host_twice(replicas: &[DesiredReplica]) -> bool
+pub fn no_host_twice(replicas: &[DesiredReplica]) -> bool
     ensures { result ≡ none_twice same_host replicas.now }
 {
     none_twice(replicas, |a, b| a.node_id == b.node_id)
@@ -30,12 +31,6 @@ fn no_leader_twice(leaders: &[NodeId]) -> bool
     ensures { result ≡ none_twice same_id leaders.now }
 {
     none_twice(leaders, |a, b| a == b)
-}
-
-fn unused_replicas_zero(p: &DesiredReplicaPlacement) -> bool
-    ensures { result ≡ every is_zero_replica (drop p.now.replica_count p.now.replicas) }
-{
-    p.unused_replicas().iter().all(|r| r.is_zero())
 }
 
 // Reason 7 does not apply.
@@ -48,7 +43,7 @@ pub fn replicas_admitted(p: &DesiredReplicaPlacement) -> bool
         && p.placement_policy.replication_factor == u32::from(p.replica_count)
         && no_replica_twice(p.desired())
         && no_host_twice(p.desired())
-        && unused_replicas_zero(p)
+        && p.is_padded()
 }
 
 // Reason 8 does not apply.
@@ -67,12 +62,6 @@ fn any_zero_leader(q: &PlacementPolicy) -> bool
     q.leaders().iter().any(|k| k.is_zero())
 }
 
-fn unused_leaders_zero(q: &PlacementPolicy) -> bool
-    ensures { result ≡ every is_zero_id (drop q.now.preferred_leader_count q.now.preferred_leader_nodes) }
-{
-    q.unused_leaders().iter().all(|k| k.is_zero())
-}
-
 // Reason 9 does not apply.
 #[tactic(auto, unfolding(metadata::specs::Commands::leaders_admitted, laws::specs::Tests::all_of))]
 pub fn leaders_admitted(q: &PlacementPolicy) -> bool
@@ -81,7 +70,7 @@ pub fn leaders_admitted(q: &PlacementPolicy) -> bool
     q.preferred_leader_count as usize <= REPLICA_ROOM
         && !any_zero_leader(q)
         && no_leader_twice(q.leaders())
-        && unused_leaders_zero(q)
+        && q.is_padded()
 }
 
 // Reason 4: a class that is asked for, empty or all spaces.

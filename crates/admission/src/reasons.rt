@@ -26,7 +26,7 @@ pub enum Reason {
 }
 
 impl Reason {
-    // As document 01 numbers them; 11 and the rest are none of them.
+    // Document 01's number of a reason; 11 is none of them. `number` says which number that is, `u8::from` would not.
     pub fn number(self) -> u8
         ensures { result ≡ reason_number self }
     {

@@ -8,7 +8,7 @@ use crate::reasons::Reason;
 use crate::texts::key_admitted;
 use metadata::{PartitionSpec, TabletDescriptor};
 
-// Reason 5: "a used role or partition kind above 1".
+// Reason 5: "a used role or partition kind above 1". A byte is compared, here and below, since a command may bring any.
 const LAST_KIND: u8 = 1;
 
 // The kind of a partition by its hash; a range has the other.
@@ -20,7 +20,7 @@ fn keys_admitted(q: &PartitionSpec) -> bool
     key_admitted(&q.start_key) && key_admitted(&q.end_key)
 }
 
-// Reason 6 does not apply: the operands of its own kind are in order, those of the other zero.
+// Reason 6 does not apply: the operands of its own kind are in order, those of the other zero. The kind is a byte, and one that is neither is refused by reason 5.
 #[tactic(auto, unfolding(metadata::specs::Commands::partition_admitted, laws::specs::Tests::all_of))]
 pub fn partition_admitted(q: &PartitionSpec) -> bool
     ensures { result ≡ partition_admitted q.now }

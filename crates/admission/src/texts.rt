@@ -20,6 +20,7 @@ const NAME_LEAST: u8 = 1;
 
 const LEAST: u8 = 0;
 
+// One call each: document 01 has a name and bounds for each kind of text.
 pub fn endpoint_admitted(t: &Name) -> bool
     ensures { result ≡ endpoint_admitted t.now }
 {

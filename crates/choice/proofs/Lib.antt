@@ -1,3 +1,2 @@
 -- The laws that belong to no one function. Assumes nothing.
 pub mod Picking
-pub mod Places

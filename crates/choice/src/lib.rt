@@ -1,229 +1,165 @@
 #![tactic(auto)]
 
 // The first choice: up to three Active nodes, each time the one whose labels add most to those of the nodes chosen before it.
-ghost use Rattle.choice.specs.Chosen.{IsChoice, chosen, filled, id_in, label_of, node_in, nodes_in};
 ghost use Rattle.laws.specs.Lists.{any};
 ghost use Rattle.metadata.specs.Answers.{is_applied};
-ghost use Rattle.metadata.specs.Labels.{beats, best_of, better, candidate, distinct, judge_picking, locality_gain, new_label, policy_of, select_initial_placement, shares_label, step_best};
+ghost use Rattle.metadata.specs.Labels.{beats, best_of, better, candidate, choose, id_at, judge_picking, locality_gain, policy_of, select_initial_placement, step_best};
 ghost use Rattle.metadata.specs.Model.{view_nodes};
-ghost use Rattle.std.specs.Prelude.{◌≡◌, ◌≤◌, false, None, eqb, length, map};
+ghost use Rattle.std.specs.Option.{option_map};
+ghost use Rattle.std.specs.Prelude.{◌≡◌, ◌≤◌, [], ◌∷◌, false, None, eqb, length, map};
 
+use labels::{NodeList, distinct, new_label};
 use metadata::{
-    Answer, INITIAL_REPLICATION_FACTOR, InitialPlacement, NodeDescriptor, NodeId, Nodes,
-    OptionalLabel, PlacementPolicy,
+    Answer, Domain, INITIAL_REPLICATION_FACTOR, InitialPlacement, NodeDescriptor, NodeId, Nodes,
+    PlacementPolicy,
 };
 
-// The three labels of a node.
-#[derive(Clone, Copy)]
-enum Domain {
-    Region,
-    Zone,
-    Rack,
-}
+// The nodes chosen so far, in order of choice.
+type Chosen<'a> = NodeList<'a, INITIAL_REPLICATION_FACTOR>;
 
-impl Domain {
-    fn label_of(self, n: &NodeDescriptor) -> &OptionalLabel
-        ensures { result.now ≡ label_of self n.now }
-    {
-        match self {
-            Domain::Region => &n.region,
-            Domain::Zone => &n.zone,
-            Domain::Rack => &n.rack,
-        }
-    }
-}
-
-// ---- the nodes in some places, none where a place is not filled
-
-fn is_shared(domain: Domain, label: &OptionalLabel, places: &[Option<&NodeDescriptor>]) -> bool
-    ensures { result ≡ any (λ n. shares_label label.now (label_of domain n.now)) (filled places.now) }
+fn contains(chosen: &[&NodeDescriptor], id: NodeId) -> bool
+    ensures { result ≡ any (λ n. eqb n.now.node_id.0 id.0) chosen.now }
 {
-    places
-        .iter()
-        .copied()
-        .flatten()
-        .any(|n| label.shares(domain.label_of(n)))
+    chosen.iter().any(|n| n.node_id == id)
 }
 
-// What the node's label adds to theirs: 1 if it is present and none of them has it, else 0.
-#[tactic(auto, unfolding(metadata::specs::Labels::new_label), using(crate::proofs::Places::any_map))]
-fn new_label(domain: Domain, n: &NodeDescriptor, places: &[Option<&NodeDescriptor>]) -> u32
-    ensures value { result ≡ new_label (label_of domain n.now) (map (label_of domain) (nodes_in places.now)) }
-    ensures bound { result ≤ 1 }
+// 0 to 3: what the node's labels add to those of the chosen nodes.
+#[tactic(auto, unfolding(metadata::specs::Labels::locality_gain))]
+fn locality_gain(chosen: &[&NodeDescriptor], n: &NodeDescriptor) -> usize
+    ensures { result ≡ locality_gain (map (λ n. n.now) chosen.now) n.now }
 {
-    let label = domain.label_of(n);
-    u32::from(label.present && !is_shared(domain, label, places))
+    new_label(Domain::Region, n, chosen)
+        + new_label(Domain::Zone, n, chosen)
+        + new_label(Domain::Rack, n, chosen)
 }
 
-// How many distinct labels they have: each counts where it stands last.
-#[tactic(auto, using(crate::proofs::Places::distinct_none, crate::proofs::Places::distinct_some))]
-fn distinct(domain: Domain, places: &[Option<&NodeDescriptor>; INITIAL_REPLICATION_FACTOR]) -> u32
-    ensures { result ≡ distinct (map (label_of domain) (nodes_in places.now)) }
+// The higher gain, and the lower id on a tie.
+#[tactic(auto, unfolding(metadata::specs::Labels::better))]
+fn is_better(chosen: &[&NodeDescriptor], a: &NodeDescriptor, b: &NodeDescriptor) -> bool
+    ensures { result ≡ better (map (λ n. n.now) chosen.now) a.now b.now }
 {
-    let mut sum = 0;
-    for (i, place) in places.iter().enumerate() {
-        if let Some(n) = place {
-            sum += new_label(domain, n, &places[i + 1..]);
-        }
-    }
-    sum
+    let x = locality_gain(chosen, a);
+    let y = locality_gain(chosen, b);
+    y < x || x == y && a.node_id < b.node_id
 }
 
-// Their ids, 0 where a place is not filled.
-fn ids_in(
-    places: &[Option<&NodeDescriptor>; INITIAL_REPLICATION_FACTOR],
-) -> [NodeId; INITIAL_REPLICATION_FACTOR]
-    ensures { result ≡ map id_in places.now }
+// Active, and not chosen yet.
+#[tactic(auto, unfolding(metadata::specs::Labels::candidate), using(labels::proofs::Lent::any_map))]
+fn is_candidate(chosen: &[&NodeDescriptor], n: &NodeDescriptor) -> bool
+    ensures { result ≡ candidate (map (λ n. n.now) chosen.now) n.now }
 {
-    places.map(|p| p.map_or(NodeId(0), |n| n.node_id))
+    n.is_active() && !contains(chosen, n.node_id)
 }
 
-// ---- the choice
-
-// The nodes chosen so far, in order of choice; the places behind them are not filled.
-#[derive(Clone, Copy)]
-struct Chosen<'a> {
-    places: [Option<&'a NodeDescriptor>; INITIAL_REPLICATION_FACTOR],
+// Any node is better than none.
+fn beats(chosen: &[&NodeDescriptor], best: Option<&NodeDescriptor>, n: &NodeDescriptor) -> bool
+    ensures { result ≡ beats (map (λ n. n.now) chosen.now) (option_map (λ b. b.now) best.entry) n.now }
+{
+    match best {
+        Some(b) => is_better(chosen, n, b),
+        None => true,
+    }
 }
 
-impl<'a> Chosen<'a> {
-    #[tactic(auto, using(crate::proofs::Places::length_filled))]
-    fn count(&self) -> usize
-        ensures value { result ≡ length (filled self.now.places) }
-        ensures bound { result ≤ INITIAL_REPLICATION_FACTOR }
-    {
-        self.places.iter().copied().flatten().count()
-    }
-
-    fn contains(&self, id: NodeId) -> bool
-        ensures { result ≡ any (λ n. eqb n.now.node_id.0 id.0) (filled self.now.places) }
-    {
-        self.places
-            .iter()
-            .copied()
-            .flatten()
-            .any(|n| n.node_id == id)
-    }
-
-    // 0 to 3: what the node's labels add to those of the chosen nodes.
-    #[tactic(auto, unfolding(metadata::specs::Labels::locality_gain))]
-    fn locality_gain(&self, n: &NodeDescriptor) -> u32
-        ensures { result ≡ locality_gain (chosen self.now) n.now }
-    {
-        new_label(Domain::Region, n, &self.places)
-            + new_label(Domain::Zone, n, &self.places)
-            + new_label(Domain::Rack, n, &self.places)
-    }
-
-    // The higher gain, and the lower id on a tie.
-    #[tactic(auto, unfolding(metadata::specs::Labels::better))]
-    fn is_better(&self, a: &NodeDescriptor, b: &NodeDescriptor) -> bool
-        ensures { result ≡ better (chosen self.now) a.now b.now }
-    {
-        let x = self.locality_gain(a);
-        let y = self.locality_gain(b);
-        y < x || x == y && a.node_id < b.node_id
-    }
-
-    // Active, and not chosen yet.
-    #[tactic(auto, unfolding(metadata::specs::Labels::candidate), using(crate::proofs::Places::any_map))]
-    fn is_candidate(&self, n: &NodeDescriptor) -> bool
-        ensures { result ≡ candidate (chosen self.now) n.now }
-    {
-        n.is_active() && !self.contains(n.node_id)
-    }
-
-    // Any node is better than none.
-    fn beats(&self, best: Option<&NodeDescriptor>, n: &NodeDescriptor) -> bool
-        ensures { result ≡ beats (chosen self.now) (node_in best.entry) n.now }
-    {
-        match best {
-            Some(b) => self.is_better(n, b),
-            None => true,
-        }
-    }
-
-    // The best so far, after one more node.
-    #[tactic(auto, unfolding(metadata::specs::Labels::step_best))]
-    fn step_best(
-        &self,
-        best: Option<&'a NodeDescriptor>,
-        n: &'a NodeDescriptor,
-    ) -> Option<&'a NodeDescriptor>
-        ensures { node_in result ≡ step_best (chosen self.now) (node_in best.entry) n.now }
-    {
-        if self.is_candidate(n) && self.beats(best, n) {
-            Some(n)
-        } else {
-            best
-        }
-    }
-
-    // The best of the nodes that are not chosen yet, if there is one.
-    #[tactic(auto, unfolding(metadata::specs::Labels::best_of))]
-    fn best_of(&self, nodes: &'a Nodes) -> Option<&'a NodeDescriptor>
-        ensures { node_in result ≡ best_of (chosen self.now) None (view_nodes nodes.now) }
-    {
-        let mut best = None;
-        for n in nodes.used() {
-            best = self.step_best(best, n);
-        }
+// The best so far, after one more node.
+#[tactic(auto, unfolding(metadata::specs::Labels::step_best))]
+fn step_best<'a>(
+    chosen: &[&NodeDescriptor],
+    best: Option<&'a NodeDescriptor>,
+    n: &'a NodeDescriptor,
+) -> Option<&'a NodeDescriptor>
+    ensures { option_map (λ b. b.now) result ≡ step_best (map (λ n. n.now) chosen.now) (option_map (λ b. b.now) best.entry) n.now }
+{
+    if is_candidate(chosen, n) && beats(chosen, best, n) {
+        Some(n)
+    } else {
         best
     }
+}
 
-    // As many copies and distinct labels as the chosen nodes give, no class and no leaders.
-    fn policy(&self) -> PlacementPolicy
-        ensures { result ≡ policy_of (chosen self.now) }
-    {
-        PlacementPolicy {
-            replication_factor: self.count() as u32,
-            min_distinct_regions: distinct(Domain::Region, &self.places),
-            min_distinct_zones: distinct(Domain::Zone, &self.places),
-            min_distinct_racks: distinct(Domain::Rack, &self.places),
-            ..PlacementPolicy::zero()
-        }
+// The best of the nodes that are not chosen yet, if there is one.
+// A loop of the shape of `labels::distinct`: this keeps a node, that adds up numbers.
+#[tactic(auto, unfolding(metadata::specs::Labels::best_of))]
+fn best_of<'a>(chosen: &[&NodeDescriptor], nodes: &'a Nodes) -> Option<&'a NodeDescriptor>
+    ensures { option_map (λ b. b.now) result ≡ best_of (map (λ n. n.now) chosen.now) None (view_nodes nodes.now) }
+{
+    let mut best = None;
+    for n in nodes.used() {
+        best = step_best(chosen, best, n);
+    }
+    best
+}
+
+// Up to three Active nodes, each time the best; it ends where no node is left.
+#[tactic(auto, using(crate::proofs::Picking::picking))]
+fn choose(nodes: &Nodes) -> Chosen<'_>
+    ensures { map (λ n. n.now) result ≡ choose (view_nodes nodes.now) }
+{
+    let mut chosen = NodeList::new(&nodes.rows[0]);
+    while !chosen.is_full() {
+        let Some(n) = best_of(chosen.used(), nodes) else {
+            return chosen;
+        };
+        chosen.push(n);
+    }
+    chosen
+}
+
+// The id of the chosen node at place i, 0 where none is: the answer has three places, and one that is empty is 0.
+fn id_at(chosen: &[&NodeDescriptor], i: usize) -> NodeId
+    ensures { result ≡ id_at (map (λ n. n.now) chosen.now) i }
+{
+    match chosen.get(i) {
+        Some(n) => n.node_id,
+        None => NodeId(0),
     }
 }
 
-// Up to three Active nodes, each time the best; where no node is left, the places behind stay unfilled.
-#[tactic(auto, using(crate::proofs::Picking::pick_start, crate::proofs::Picking::pick_more))]
-fn choose(nodes: &Nodes) -> Chosen
-    ensures { IsChoice (view_nodes nodes.now) result }
+// Their ids, 0 in the places that are not filled.
+fn ids_in(chosen: &[&NodeDescriptor]) -> [NodeId; INITIAL_REPLICATION_FACTOR]
+    ensures { result ≡ id_at (map (λ n. n.now) chosen.now) 0 ∷ id_at (map (λ n. n.now) chosen.now) 1 ∷ id_at (map (λ n. n.now) chosen.now) 2 ∷ [] }
 {
-    let mut chosen = Chosen {
-        places: [None; INITIAL_REPLICATION_FACTOR],
-    };
-    for k in 0..INITIAL_REPLICATION_FACTOR {
-        let Some(n) = chosen.best_of(nodes) else {
-            return chosen;
-        };
-        chosen.places[k] = Some(n);
+    [id_at(chosen, 0), id_at(chosen, 1), id_at(chosen, 2)]
+}
+
+// As many copies and distinct labels as the chosen nodes give, no class and no leaders.
+fn policy_of(chosen: &[&NodeDescriptor]) -> PlacementPolicy
+    requires { length chosen.now ≤ INITIAL_REPLICATION_FACTOR }
+    ensures { result ≡ policy_of (map (λ n. n.now) chosen.now) }
+{
+    PlacementPolicy {
+        replication_factor: chosen.len() as u32,
+        min_distinct_regions: distinct(Domain::Region, chosen) as u32,
+        min_distinct_zones: distinct(Domain::Zone, chosen) as u32,
+        min_distinct_racks: distinct(Domain::Rack, chosen) as u32,
+        ..PlacementPolicy::zero()
     }
-    chosen
 }
 
 #[tactic(auto, unfolding(metadata::specs::Labels::select_initial_placement))]
 pub fn select_initial_placement(nodes: &Nodes) -> InitialPlacement
     ensures { result ≡ select_initial_placement (view_nodes nodes.now) }
 {
-    let chosen = choose(nodes);
+    let list = choose(nodes);
+    let chosen = list.used();
     InitialPlacement {
-        node_count: chosen.count() as u8,
-        nodes: ids_in(&chosen.places),
-        placement_policy: chosen.policy(),
+        node_count: chosen.len() as u8,
+        nodes: ids_in(chosen),
+        placement_policy: policy_of(chosen),
     }
 }
 
-// The answer of picking, which changes nothing: it is never Applied.
+// The answer of picking, which changes nothing: it is never Applied, so there is no way on for a `Result` to tell.
 #[tactic(auto, unfolding(metadata::specs::Labels::judge_picking, metadata::specs::Answers::refuse, metadata::specs::Answers::and_then))]
 pub fn judge_picking(nodes: &Nodes) -> Answer
     ensures answer { result ≡ judge_picking (view_nodes nodes.now) }
     ensures refused { is_applied result ≡ false }
 {
-    let chosen = choose(nodes);
-    if chosen.count() == 0 {
+    let list = choose(nodes);
+    let chosen = list.used();
+    if chosen.is_empty() {
         return Answer::NoRegisteredNodes;
     }
-    let [first, second, third] = ids_in(&chosen.places);
+    let [first, second, third] = ids_in(chosen);
     Answer::Picked(first, second, third)
 }

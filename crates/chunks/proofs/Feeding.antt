@@ -1,5 +1,5 @@
 -- A chunk of the tape, command by command. Assumes nothing.
-use Rattle.std.proofs.Common.{◌≡◌, ℕ, ◌+◌, ◌-◌, ◌%◌, ◌^◌, ◌<◌, ◌≤◌, Bool, true, false, List, [], ◌∷◌, ◌++◌, length, sym, refl, ap, ◌∙◌, subst, ap₂, append_assoc, append-nil, arith, rules}
+use Rattle.std.proofs.Common.{◌≡◌, ℕ, ◌+◌, ◌-◌, ◌<◌, ◌≤◌, true, false, List, [], ◌∷◌, ◌++◌, length, sym, refl, ap, ◌∙◌, subst, ap₂, append_assoc, append-nil, arith}
 use Rattle.laws.proofs.ListLaws.{never}
 use Rattle.lines.specs.Lines.{line_text}
 use Rattle.metadata.specs.Answers.{reported}
@@ -8,6 +8,7 @@ use Rattle.metadata.specs.declared.Command.{Command}
 use Rattle.metadata.specs.Sound.{sound, entry, run}
 use Rattle.metadata.specs.declared.Answer.{Answer}
 use Rattle.metadata.specs.declared.Answer.TheVariants as A
+use Rattle.metadata.specs.declared.kinds.TapeFault.TheVariants as F
 use Rattle.metadata.specs.declared.Answered.{Answered}
 use Rattle.metadata.specs.declared.Reported.{Reported}
 use Rattle.metadata.specs.declared.Store.{Store}
@@ -15,8 +16,7 @@ use Rattle.metadata.proofs.Theorem.{entry-step, step-sound}
 use Rattle.reading.specs.declared.Next.{Next}
 use Rattle.reading.specs.declared.Next.TheVariants as N
 use Rattle.reading.specs.Reader.{Reading, next_at, read_from, tape_answers, command_at}
-use Rattle.reading.proofs.Reading.{whole, read_whole, read_end, read_unknown, read_cut, next_end}
-use Rattle.reading.proofs.Reading.{whole_less, whole_known, whole_fits}
+use Rattle.reading.proofs.Reading.{whole, wholes, read_whole, read_end, read_unknown, read_cut, next_end}
 use Rattle.chunks.specs.declared.Chunk.{Chunk}
 use Rattle.chunks.specs.declared.Pause.{Pause}
 use Rattle.chunks.specs.declared.Pause.TheVariants as P
@@ -37,10 +37,6 @@ behind_more n [] a = refl
 behind_more n (x ∷ l) a = behind_more (next_line n) l a
 
 -- ---- one command more
-
-run_last : (s : Store) (cs : List Command) (c : Command) → run s (cs ++ c ∷ []) ≡ (entry (run s cs) c).store
-run_last s [] c = refl
-run_last s (x ∷ cs) c = run_last (entry s x).store cs c
 
 pub run_both : (s : Store) (cs ds : List Command) → run s (cs ++ ds) ≡ run (run s cs) ds
 run_both s [] ds = refl
@@ -77,6 +73,7 @@ feed_start l s₀ from first old e h =
     }
 
 module _ (l : List ℕ) (s₀ : Store) (from first : ℕ) (old : List ℕ) (s : Store) (at line : ℕ) (out : List ℕ) (k : Feeding l s₀ from first old s at line out) where
+  -- Of the loop as it goes; `fed_sound` of the crate feeding says the same of what a run left.
   pub feed_sound : sound s ≡ true
   feed_sound = k.sounds
 
@@ -88,15 +85,16 @@ module _ (l : List ℕ) (s₀ : Store) (from first : ℕ) (old : List ℕ) (s : 
       ∙ append_assoc old (lines_text first k.done) (line_text (line_behind first k.done) (reported a))
       ∙ ap (λ (t : List ℕ). old ++ t) (lines_more first k.done a)
 
-  pub feed_next : (x : Next) (b m : ℕ) → x ≡ next_at l at → x ≡ N.Whole b m → (a : Answer) (s' : Store) (r : Reported) (new : List ℕ) (line' : ℕ) →
-      ◌≡◌ {A = Answered} (record { answer = a; store = s' }) (step s (command_at b l (at + 1))) → r ≡ reported a → new ≡ out ++ line_text line r → line' ≡ (line + 1) % 2 ^ 64 →
-      Feeding l s₀ from first old s' m line' new
-  feed_next x b m q e a s' r new line' d p g z =
+  pub feed_next : (x : Next) (b m : ℕ) → x ≡ next_at l at → x ≡ N.Whole b m → (c : Command) (a : Answer) (s' : Store) (r : Reported) (new : List ℕ) →
+      c ≡ command_at b l (at + 1) → ◌≡◌ {A = Answered} (record { answer = a; store = s' }) (step s c) → r ≡ reported a → new ≡ out ++ line_text line r →
+      Feeding l s₀ from first old s' m (next_line line) new
+  feed_next x b m q e c a s' r new f t p g =
+      let d : ◌≡◌ {A = Answered} (record { answer = a; store = s' }) (step s (command_at b l (at + 1))) = rw f at t in
       record {
         commands = k.commands ++ command_at b l (at + 1) ∷ [];
         ran =
             ap (λ (t : Answered). t.store) (d ∙ sym (entry-step s (command_at b l (at + 1)) k.sounds))
-            ∙ ap (λ (t : Store). (entry t (command_at b l (at + 1))).store) k.ran ∙ sym (run_last s₀ k.commands (command_at b l (at + 1)));
+            ∙ ap (λ (t : Store). (entry t (command_at b l (at + 1))).store) k.ran ∙ sym (run_both s₀ k.commands (command_at b l (at + 1) ∷ []));
         first_ones =
             k.first_ones ∙ ap (λ (t : Reading). k.commands ++ t.commands) (read_whole l at b m (sym q ∙ e))
             ∙ sym (append_assoc k.commands (command_at b l (at + 1) ∷ []) (read_from l m).commands);
@@ -109,7 +107,7 @@ module _ (l : List ℕ) (s₀ : Store) (from first : ℕ) (old : List ℕ) (s : 
             k.store ∙ ap (λ (t : Reading). run s t.commands) (read_whole l at b m (sym q ∙ e))
             ∙ ap (λ (t : Answered). run t.store (read_from l m).commands) (entry-step s (command_at b l (at + 1)) k.sounds ∙ sym d);
         text = line_more a r new p g;
-        numbered = z ∙ ap next_line k.numbered ∙ behind_more first k.done a;
+        numbered = ap next_line k.numbered ∙ behind_more first k.done a;
         sounds = subst (λ (t : Answered). sound t.store ≡ true) (sym d) (step-sound s (command_at b l (at + 1)) k.sounds);
         inside = (whole l at b m (sym q ∙ e)).fits;
       }
@@ -176,7 +174,7 @@ module _ (l : List ℕ) (s₀ : Store) (from first : ℕ) (old : List ℕ) (s : 
     pub feed_end : c ≡ stand P.Short → x ≡ N.End → Left c out
     feed_end f e = none_left f (ap (λ (r : Reading). r.commands) (read_end l at (sym q ∙ e)))
 
-    pub feed_unknown : (b : ℕ) (r : Reported) (new : List ℕ) → c ≡ stand P.Stopped → x ≡ N.Unknown b → r ≡ reported (A.BadTape 1 b) → new ≡ out ++ line_text line r → Left c new
+    pub feed_unknown : (b : ℕ) (r : Reported) (new : List ℕ) → c ≡ stand P.Stopped → x ≡ N.Unknown b → r ≡ reported (A.BadTape F.Unknown b) → new ≡ out ++ line_text line r → Left c new
     feed_unknown b r new f e p a =
         let w = read_unknown l at b (sym q ∙ e) in
         subst (λ (x : Chunk). Left x new) (sym f)
@@ -184,10 +182,10 @@ module _ (l : List ℕ) (s₀ : Store) (from first : ℕ) (old : List ℕ) (s : 
           commands = k.commands;
           ran = k.ran;
           first_ones = k.first_ones;
-          done = k.done ++ A.BadTape 1 b ∷ [];
-          split = k.split ∙ ap (λ (y : Reading). k.done ++ tape_answers s y) w ∙ sym (append-nil (k.done ++ A.BadTape 1 b ∷ []));
+          done = k.done ++ A.BadTape F.Unknown b ∷ [];
+          split = k.split ∙ ap (λ (y : Reading). k.done ++ tape_answers s y) w ∙ sym (append-nil (k.done ++ A.BadTape F.Unknown b ∷ []));
           store = k.store;
-          text = line_more l s₀ from first old s at line out k (A.BadTape 1 b) r new p a;
+          text = line_more l s₀ from first old s at line out k (A.BadTape F.Unknown b) r new p a;
           line = λ e. absurd (never true refl e);
           sounds = k.sounds;
           inside = k.inside;
@@ -197,6 +195,5 @@ module _ (l : List ℕ) (s₀ : Store) (from first : ℕ) (old : List ℕ) (s : 
           stops = λ z. sym q ∙ e;
         })
 
--- for `search feeding` at each goal of the loop
-pub ruleset feeding =
-    (feed_start, feed_sound, whole_known, whole_fits, whole_less, feed_next, feed_full, feed_over, feed_cut, feed_end, feed_unknown, rules)
+-- for `using` on `run_chunk`: what its steps ask for, beside the laws of each way out
+pub ruleset feeding = (wholes, feed_start, feed_sound, feed_full)

@@ -1,4 +1,4 @@
-#![tactic(auto, using(crate::proofs::Feeding::feeding))]
+#![tactic(auto)]
 
 // A chunk of the tape: its whole commands run, a line for each answer in a lent slice.
 ghost use Rattle.chunks.specs.Chunks.{Fed};
@@ -8,7 +8,7 @@ ghost use Rattle.std.specs.Prelude.{◌≡◌, ◌≤◌, true, length};
 
 use arrayvec::ArrayString;
 use lines::{LINE_ROOM, put_line};
-use metadata::{Answer, Store};
+use metadata::{Answer, Store, TapeFault};
 use reading::{Next, command_at, next_at};
 use steps::step;
 
@@ -39,7 +39,9 @@ fn short(at: usize, line: u64) -> Chunk
     }
 }
 
-// Inner: the program shows that the store is sound, and that the place is inside. Runs the whole commands of a chunk while a line has room.
+// Inner: the program shows that the store is sound, and that the place is inside. Runs the whole commands of a chunk while a line has room:
+// a walk as `reading::count_lines` has it, with more ways out.
+#[tactic(auto, using(crate::proofs::Feeding::feeding))]
 pub fn run_chunk<const N: usize>(
     store: &mut Store,
     chunk: &[u8],
@@ -51,6 +53,7 @@ pub fn run_chunk<const N: usize>(
     ensures { Fed N chunk.now store.old from first out.old.bytes result store.new out.new.bytes }
 {
     let mut at = from;
+    // The line of the next answer. The loop goes over places of the chunk and no list, so `enumerate` has nothing to number.
     let mut line = first;
     while at < chunk.len() {
         if out.remaining_capacity() < LINE_ROOM {
@@ -68,7 +71,7 @@ pub fn run_chunk<const N: usize>(
                 at = next;
             }
             Next::Unknown(b) => {
-                put_line(out, line, &Answer::BadTape(1, b).report());
+                put_line(out, line, &Answer::BadTape(TapeFault::Unknown, b).report());
                 return Chunk {
                     at,
                     line,

@@ -5,7 +5,6 @@ use mathlib.Core.Path.{◌≡◌, refl, sym, ap, ◌∙◌}
 use mathlib.Core.Bool.{true}
 use mathlib.Core.List.{List, [], ◌++◌}
 use lib.ListN.{take, length-take}
-use borrow.Author.Rules.{rules}
 use Rattle.chunks.proofs.Feeding.{run_both}
 use Rattle.chunks.specs.Chunks.{Reached, Fed}
 use Rattle.chunks.specs.declared.Chunk.{Chunk}
@@ -27,10 +26,12 @@ module _ (l : List ℕ) (n : ℕ) (s : Store) (from first : ℕ) (old : List ℕ
   pub fed_reached : Reached s s'
   fed_reached = record { commands = k.commands; ran = k.ran }
 
+  -- Of what a run left; `feed_sound` of the crate chunks says the same of its loop.
   pub fed_sound : sound s' ≡ true
   fed_sound = k.sounds
 
   pub fed_inside : c.at ≤ n
   fed_inside = omega (arith, k.inside, length-take n l)
 
-pub ruleset turning = (reached_none, reached_on, fed_reached, fed_sound, fed_inside, rules)
+-- for `using` on the whole crate: that the store stays sound and is reached, and that the place is inside, by `turn`, `feed_all` and `run_tape`
+pub ruleset turning = (reached_none, reached_on, fed_reached, fed_sound, fed_inside)

@@ -8,7 +8,7 @@ ghost use Rattle.std.specs.Prelude.{◌≡◌, true, ◌≤◌, IfSome};
 use arrayvec::ArrayString;
 use chunks::{Pause, run_chunk};
 use input::{BUFFER_SIZE, Buffer};
-use metadata::{Answer, Store};
+use metadata::{Answer, Store, TapeFault};
 use printing::{emit, print_line};
 use reading::{Next, body_at, next_at};
 use std::rt::{Stdin, Stdout};
@@ -23,11 +23,12 @@ pub struct Place {
 // The input ended: a command that is not whole is cut short.
 fn finish(to: Stdout, left: &[u8], line: u64) {
     if let Next::Cut(b) = next_at(left, 0) {
-        print_line(to, line, Answer::BadTape(2, b));
+        print_line(to, line, Answer::BadTape(TapeFault::Cut, b));
     }
 }
 
 // The commands at hand are run and their lines written; where the run stands then, none where all is done.
+// `input`, `to`, `store` and `buffer` are handles and what is lent for the whole run: a struct of them would be taken apart again in each function.
 fn turn(
     input: Stdin,
     to: Stdout,

@@ -10,7 +10,7 @@ use std::rt::Stdin;
 // How much of the tape is held. specs/Buffers.antt names it once more.
 pub const BUFFER_SIZE: usize = 65536;
 
-// The bytes at hand are the first `have`.
+// The bytes at hand are the first `have`: an array with its count, since there is no heap.
 #[derive(Drop)]
 pub struct Buffer {
     pub bytes: [u8; BUFFER_SIZE],
@@ -33,6 +33,7 @@ fn read_some(input: Stdin, buf: &mut [u8]) -> usize
 pub fn read_full(input: Stdin, buf: &mut [u8]) -> usize
     ensures { result ≤ length buf.new }
 {
+    // The bytes read so far, by which each read takes it further: the loop goes over no list, so `enumerate` has nothing to number.
     let mut done = 0;
     while done < buf.len() {
         let n = read_some(input, &mut buf[done..]);

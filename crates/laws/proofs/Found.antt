@@ -1,11 +1,22 @@
 -- What std's searches of a list answer, in a table's words: whether a row is there, at which place the first stands, and that row.
 -- Over any type of rows. Assumes nothing.
+use denote.Param.Members.{Mut}
+use denote.Ref.{Bor}
+use Rattle.std.specs.declared.slice.Iter.{Iter}
+use Rattle.std.specs.Bool.{⊤}
+use Rattle.std.specs.Fn.{Called, CalledAt}
+use Rattle.std.specs.Iterator.{YieldsThen}
+use Rattle.std.specs.Slice.Iter.{iter_rest}
+use Rattle.std.proofs.iter.Yields.{fronts}
+use Rattle.std.proofs.lemmas.Iterator.{YieldsList-from_slice}
+use Rattle.std.proofs.lemmas.Iterator.Search.{any_from_yields_List, position_from_yields_List, find_from_yields_List}
 use Rattle.std.specs.Prelude.{◌≡◌, ℕ, suc, ◌+◌, Bool, true, false, cond, ◌||◌, not, List, [], ◌∷◌, ltb, length, Option, Some, None, MatchOption, position}
-use Rattle.std.specs.List.{find, list_any, position_or_len}
+use Rattle.std.specs.List.{FoldsTo, find, list_any, position_or_len}
 use Rattle.std.specs.Option.{option_map}
 use Rattle.std.proofs.Common.{refl, sym, ◌∙◌, subst, arith, lt-ltb, le-ltb, ltb-true, ltb-false, add-zero, zero-add}
 use Rattle.laws.specs.Keyed.{Keyed, has, row}
 use Rattle.laws.specs.Rows.{find_from, find_index}
+use Rattle.laws.proofs.Lookups.{under}
 
 module _ {A : Type 0} (p : A → Bool) where
   -- place n of len, counted from i; with no such place nothing
@@ -34,30 +45,27 @@ module _ {A : Type 0} (p : A → Bool) where
   position_is l = rw zero-add at (from_is 0 l)
 
 module _ {A : Type 0} (T : Keyed A) (k : T.Key) where
-  abbrev under : A → Bool
-  under x = T.eq (T.key x) k
-
-  has_go : (t : Bool) (l : List A) → has T k l ≡ list_any under l → cond t true (has T k l) ≡ (t || list_any under l)
+  has_go : (t : Bool) (l : List A) → has T k l ≡ list_any (under T k) l → cond t true (has T k l) ≡ (t || list_any (under T k) l)
   has_go true l h = refl
   has_go false l h = h
 
   -- a row is there exactly where some row passes
   pub has_any : (l : List A) → has T k l ≡ list_any (λ (x : A). T.eq (T.key x) k) l
   has_any [] = refl
-  has_any (x ∷ l) = has_go (under x) l (has_any l)
+  has_any (x ∷ l) = has_go (under T k x) l (has_any l)
 
   module _ (d : A) where
     abbrev Says : List A → Option A → Type 0
     Says l o = MatchOption o (has T k l ≡ false) (λ (x : A). (has T k l ≡ true) × (row T d k l ≡ x))
 
-    find_go : (t : Bool) (x : A) (l : List A) → Says l (find under l)
-        → MatchOption (cond t (Some x) (find under l)) (cond t true (has T k l) ≡ false) (λ (y : A). (cond t true (has T k l) ≡ true) × (cond t x (row T d k l) ≡ y))
+    find_go : (t : Bool) (x : A) (l : List A) → Says l (find (under T k) l)
+        → MatchOption (cond t (Some x) (find (under T k) l)) (cond t true (has T k l) ≡ false) (λ (y : A). (cond t true (has T k l) ≡ true) × (cond t x (row T d k l) ≡ y))
     find_go true x l h = (refl, refl)
     find_go false x l h = h
 
-    find_says : (l : List A) → Says l (find under l)
+    find_says : (l : List A) → Says l (find (under T k) l)
     find_says [] = refl
-    find_says (x ∷ l) = find_go (under x) x l (find_says l)
+    find_says (x ∷ l) = find_go (under T k x) x l (find_says l)
 
     -- the row itself: v reads what the search answers, as a reference is read
     module _ {B : Type 0} (v : B → A) (l : List A) where
@@ -68,3 +76,26 @@ module _ {A : Type 0} (T : Keyed A) (k : T.Key) where
       pub row_found : (r : Option B) → option_map v r ≡ find (λ (x : A). T.eq (T.key x) k) l
           → MatchOption r (has T k l ≡ false) (λ (b : B). (has T k l ≡ true) × (row T d k l ≡ v b))
       row_found r e = read r (subst (Says l) (sym e) (find_says l))
+
+-- ---- what a function answers that searches a slice: s is its iterator, which ends as u, and its closure f tells the test of each item
+module _ {A F : Type 0} where
+  abbrev Tells : Mut F (Bor A × ⊤) Bool → F → (A → Bool) → Type 0
+  Tells g f p = (x : Bor A) (b : Bool) (q : F) → Called g f (x, tt) b q → (q ≡ f) × (b ≡ p x.now)
+
+  -- the items that did not pass, and then none or one that did
+  abbrev Stops : Mut F (Bor A × ⊤) Bool → Iter A → Iter A → F → Type 0 → (List (Bor A) → Type 0) → Type 0
+  Stops g s u f Without With = (xs : List (Bor A)) × (o : Option (Bor A)) × (j : F) × YieldsThen fronts s xs o u × FoldsTo (λ k x q. Called g k (x, tt) false q) f xs j
+      × MatchOption o Without (λ x. With xs × ((h : F) × Called g j (x, tt) true h))
+
+  module _ {g : Mut F (Bor A × ⊤) Bool} {s : Iter A} (u : Iter A) (f : F) where
+    pub has_from_any : (T : Keyed A) (k : T.Key) (l : List A) (r : Bool) → Stops g s u f (r ≡ false) (λ xs. r ≡ true) → iter_rest s ≡ l → Tells g f (under T k) → r ≡ has T k l
+    has_from_any T k l r h e t = any_from_yields_List (under T k) u f r h (YieldsList-from_slice l e) t ∙ sym (has_any T k l)
+
+    pub place_from_position : (p : A → Bool) (l : List A) (r : Option ℕ) → Stops g s u f (r ≡ None) (λ xs. r ≡ Some (length xs)) → iter_rest s ≡ l → Tells g f p → r ≡ find_index p l
+    place_from_position p l r h e t = position_from_yields_List p u f r h (YieldsList-from_slice l e) t ∙ position_is p l
+
+  pub row_from_find : {g : Mut F (Bor (Bor A) × ⊤) Bool} {s : Iter A} (u : Iter A) (f : F) (T : Keyed A) (d : A) (k : T.Key) (l : List A) (r : Option (Bor A))
+      → (xs : List (Bor A)) × (j : F) × YieldsThen fronts s xs r u × FoldsTo (λ p x q. CalledAt g p x false q) f xs j × MatchOption r ⊤ (λ x. (h : F) × CalledAt g j x true h)
+      → iter_rest s ≡ l → ((x : Bor A) (b : Bool) (q : F) → CalledAt g f x b q → (q ≡ f) × (b ≡ under T k x.now))
+      → MatchOption r (has T k l ≡ false) (λ x. (has T k l ≡ true) × (row T d k l ≡ x.now))
+  row_from_find u f T d k l r h e t = row_found T k d (λ x. x.now) l r (find_from_yields_List (under T k) u f r h (YieldsList-from_slice l e) t)

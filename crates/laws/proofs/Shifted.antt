@@ -1,16 +1,12 @@
 -- The insertion of a row into a table's first n rows, by a copy of those behind its place one place up. Over any type of rows and any order. Assumes nothing.
-use Rattle.std.specs.Prelude.{◌≡◌, ℕ, ◌+◌, ◌-◌, ◌≤◌, ◌<◌, Bool, List, ◌∷◌, ◌++◌, length, Option, Some, None, take, drop}
+use Rattle.std.specs.Prelude.{◌≡◌, ℕ, ◌+◌, ◌-◌, ◌≤◌, ◌<◌, Bool, List, ◌∷◌, ◌++◌, length, Option, take, drop}
 use Rattle.std.specs.Option.{unwrap_or}
 use Rattle.std.specs.List.{copy_within}
-use Rattle.std.proofs.Common.{refl, sym, ap, ◌∙◌, get_or, set, append_assoc, add-one, arith}
+use Rattle.std.proofs.Common.{sym, ap, ◌∙◌, get_or, set, append_assoc, add-one, arith}
 use Rattle.std.proofs.Math.Seq.{take-suc, append_snoc, set_at, length-take-le, take-take}
 use Rattle.std.proofs.lemmas.List.{drop-take}
-use Rattle.laws.specs.Rows.{find_index, insert_rows, or_else}
+use Rattle.laws.specs.Rows.{find_index, insert_rows}
 use Rattle.laws.proofs.Insert.{insert_at, at_place, place_le}
-
-or_else_is : (f : Option ℕ) (n : ℕ) → unwrap_or f n ≡ or_else f n
-or_else_is None n = refl
-or_else_is (Some i) n = refl
 
 module _ {A : Type 0} (x : A) (n : ℕ) (l : List A) (k : n < length l) where
   module _ (at : ℕ) (h : at ≤ n) where
@@ -32,6 +28,6 @@ module _ {A : Type 0} (x : A) (n : ℕ) (l : List A) (k : n < length l) where
   -- at the place that was found it is the insertion: f is what the search answered, o the rows after the copy
   pub shifted_in : (lt : A → A → Bool) (f : Option ℕ) (at : ℕ) (o : List A) → f ≡ find_index (lt x) (take n l) → at ≡ unwrap_or f n → o ≡ copy_within l at n (at + 1) → set o at x ≡ insert_rows lt x n l
   shifted_in lt f at o p q r =
-      let e : at ≡ or_else (find_index (lt x) (take n l)) n = q ∙ or_else_is f n ∙ ap (λ (g : Option ℕ). or_else g n) p in
+      let e : at ≡ unwrap_or (find_index (lt x) (take n l)) n = q ∙ ap (λ (g : Option ℕ). unwrap_or g n) p in
       let h : at ≤ n = omega (arith, e, place_le (lt x) n l (omega arith)) in
       rw (r, shifted at h, at_place lt x n l (omega arith), ← e)

@@ -27,4 +27,5 @@ module _ {X : Type 0} {f : X → Answer} {xs : List X} where
   unfolding each
   each_end {i} h k = h.left ∙ rw (drop_of_length-le xs {i = i} k)
 
+-- for `using` on a loop that asks a check of each row in turn: `expected_in` and `still_expected` (nodes), `judge_leaders` and `judge_kept_replicas` (placements), `judge_range` (tablets)
 pub ruleset each_rules = (each_start, each_next, each_stop, each_end)

@@ -15,5 +15,5 @@ pub mod Opened
 pub mod Theorem
 pub mod Trials
 pub mod Samples
-pub mod Judging
 pub mod Each
+pub mod Lookups

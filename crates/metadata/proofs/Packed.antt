@@ -1,6 +1,5 @@
 -- A sound store is its rows packed, and packed rows that are sound are a sound store: `pack-view`, `view-sound`, `pack-sound`. Assumes nothing.
 use Prim.Native.Nat.{ℕ, ◌≤◌}
-use native.Mathlib.Omega.{arith}
 use mathlib.Core.Path.{◌≡◌, sym, subst}
 use mathlib.Core.Bool.{Bool, true}
 use mathlib.Core.List.{List}
@@ -39,20 +38,10 @@ use Rattle.metadata.specs.declared.DesiredReplicaPlacement.{DesiredReplicaPlacem
 use Rattle.metadata.specs.declared.Directory.{Directory}
 use Rattle.metadata.specs.declared.Catalog.{Catalog}
 use Rattle.metadata.specs.declared.Store.{Store}
-use Rattle.laws.proofs.Packed.{counted, whole}
-use Rattle.metadata.proofs.SoundTable.{sound_packed, made_sound}
-use Rattle.metadata.proofs.ZeroRows.{
-  zero_node_lem,
-  zero_table_lem,
-  zero_tablet_lem,
-  zero_placement_lem,
-  zero_retirement_lem,
-  node_passes,
-  table_passes,
-  tablet_passes,
-  placement_passes,
-  retirement_passes,
-}
+use Rattle.table.proofs.Kept.{fits, repacked}
+use Rattle.table.proofs.Sound.{made_sound}
+use Rattle.metadata.proofs.SoundTable.{nodes_packed, tables_packed, tablets_packed, placements_packed, retirements_packed}
+use Rattle.metadata.proofs.ZeroRows.{node_passes, table_passes, tablet_passes, placement_passes, retirement_passes}
 use Rattle.metadata.proofs.Soundness.{DirectorySound, CatalogSound, RowsSound}
 
 -- ---- a sound store's rows
@@ -79,11 +68,11 @@ directory_true : (d : Directory) → sound_directory d ≡ true → DirectorySou
 unfolding sound_directory
 directory_true d e =
     let g = each_of _ e in
-    let n = sound_packed node_key is_zero_node zero_node node_room d.nodes.count d.nodes.rows zero_node_lem g.1.0 in
+    let n = nodes_packed d.nodes g.1.0 in
     record {
       name = g.0;
       nodes = n.rises;
-      node_room_lem = omega (arith, counted node_key zero_node node_room _ _ n, n.within);
+      node_room_lem = fits d.nodes n;
       node_rows = every-all sound_node (view_directory d).nodes g.1.1.0;
     }
 
@@ -91,22 +80,22 @@ catalog_true : (c : Catalog) → sound_catalog c ≡ true → CatalogSound (view
 unfolding sound_catalog
 catalog_true c e =
     let g = each_of _ e in
-    let a = sound_packed table_key is_zero_table zero_table table_room c.tables.count c.tables.rows zero_table_lem g.0 in
-    let t = sound_packed tablet_key is_zero_tablet zero_tablet tablet_room c.tablets.count c.tablets.rows zero_tablet_lem g.1.0 in
-    let p = sound_packed placement_key is_zero_placement zero_placement tablet_room c.placements.count c.placements.rows zero_placement_lem g.1.1.1.0 in
-    let x = sound_packed retirement_key is_zero_retirement zero_retirement retirement_room c.retirements.count c.retirements.rows zero_retirement_lem g.1.1.1.1.1.0 in
+    let a = tables_packed c.tables g.0 in
+    let t = tablets_packed c.tablets g.1.0 in
+    let p = placements_packed c.placements g.1.1.1.0 in
+    let x = retirements_packed c.retirements g.1.1.1.1.1.0 in
     let m = marks_true (view_catalog c) g.1.1.1.1.1.1.0 in
     record {
       tables = a.rises;
-      table-room = omega (arith, counted table_key zero_table table_room _ _ a, a.within);
+      table-room = fits c.tables a;
       tablets = t.rises;
-      tablet-room = omega (arith, counted tablet_key zero_tablet tablet_room _ _ t, t.within);
+      tablet-room = fits c.tablets t;
       tablet-rows = every-all sound_tablet (view_catalog c).tablets g.1.1.0;
       placements = p.rises;
-      placement-room = omega (arith, counted placement_key zero_placement tablet_room _ _ p, p.within);
+      placement-room = fits c.placements p;
       placement-rows = every-all sound_placement (view_catalog c).placements g.1.1.1.1.0;
       retirements = x.rises;
-      retirement-room = omega (arith, counted retirement_key zero_retirement retirement_room _ _ x, x.within);
+      retirement-room = fits c.retirements x;
       table_mark = m.0;
       tablet_mark = m.1.0;
       group_mark = m.1.1.0;
@@ -187,35 +176,18 @@ pack-sound m o = all_of_lem _ (directory_pass m.directory o.directory, (catalog_
 same-directory : (d : Directory) → sound_directory d ≡ true → pack_directory (view_directory d) ≡ d
 unfolding sound_directory
 same-directory d e =
-    let t = sound_packed node_key is_zero_node zero_node node_room d.nodes.count d.nodes.rows zero_node_lem (each_of _ e).1.0 in
-    let p = sym (counted node_key zero_node node_room _ _ t) in
-    let q = sym (whole node_key zero_node node_room _ _ t) in
-    λ i. record { cluster_id = d.cluster_id; nodes = record { count = p i; rows = q i } }
+    let n = repacked d.nodes (nodes_packed d.nodes (each_of _ e).1.0) in
+    λ i. record { cluster_id = d.cluster_id; nodes = n i }
 
 same-catalog : (c : Catalog) → sound_catalog c ≡ true → pack_catalog (view_catalog c) ≡ c
 unfolding sound_catalog
 same-catalog c e =
     let g = each_of _ e in
-    let a = sound_packed table_key is_zero_table zero_table table_room c.tables.count c.tables.rows zero_table_lem g.0 in
-    let t = sound_packed tablet_key is_zero_tablet zero_tablet tablet_room c.tablets.count c.tablets.rows zero_tablet_lem g.1.0 in
-    let p = sound_packed placement_key is_zero_placement zero_placement tablet_room c.placements.count c.placements.rows zero_placement_lem g.1.1.1.0 in
-    let x = sound_packed retirement_key is_zero_retirement zero_retirement retirement_room c.retirements.count c.retirements.rows zero_retirement_lem g.1.1.1.1.1.0 in
-    let a1 = sym (counted table_key zero_table table_room _ _ a) in
-    let a2 = sym (whole table_key zero_table table_room _ _ a) in
-    let t1 = sym (counted tablet_key zero_tablet tablet_room _ _ t) in
-    let t2 = sym (whole tablet_key zero_tablet tablet_room _ _ t) in
-    let p1 = sym (counted placement_key zero_placement tablet_room _ _ p) in
-    let p2 = sym (whole placement_key zero_placement tablet_room _ _ p) in
-    let x1 = sym (counted retirement_key zero_retirement retirement_room _ _ x) in
-    let x2 = sym (whole retirement_key zero_retirement retirement_room _ _ x) in
-    λ i.
-    record {
-      tables = record { count = a1 i; rows = a2 i };
-      tablets = record { count = t1 i; rows = t2 i };
-      placements = record { count = p1 i; rows = p2 i };
-      retirements = record { count = x1 i; rows = x2 i };
-      marks = c.marks;
-    }
+    let a = repacked c.tables (tables_packed c.tables g.0) in
+    let t = repacked c.tablets (tablets_packed c.tablets g.1.0) in
+    let p = repacked c.placements (placements_packed c.placements g.1.1.1.0) in
+    let x = repacked c.retirements (retirements_packed c.retirements g.1.1.1.1.1.0) in
+    λ i. record { tables = a i; tablets = t i; placements = p i; retirements = x i; marks = c.marks }
 
 pub pack-view : (s : Store) → sound s ≡ true → pack (view s) ≡ s
 unfolding sound

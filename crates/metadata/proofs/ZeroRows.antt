@@ -1,7 +1,7 @@
 -- A row that passes the test for zeros is the row of zeros. Assumes nothing.
 use Prim.Native.Nat.{ℕ}
 use mathlib.Core.Path.{◌≡◌, refl, ap, ◌∙◌}
-use mathlib.Core.Bool.{Bool, true, false, not, ◌&&◌}
+use mathlib.Core.Bool.{Bool, true, not, ◌&&◌}
 use mathlib.Core.List.{List}
 use lib.Dec.{eqb}
 use lib.ListN.{length, replicate}
@@ -12,11 +12,11 @@ use Rattle.laws.proofs.Every.{all_z}
 use Rattle.laws.proofs.ListLaws.{and_both}
 use Rattle.laws.proofs.Tests.{each_of}
 use Rattle.laws.specs.Tests.{all_of}
-use Rattle.metadata.specs.Rooms.{name_width, label_width, key_width, replica_room}
-use Rattle.metadata.specs.Texts.{is_no_label, zero_name, zero_label, zero_key, no_label}
-use Rattle.text.specs.Texts.{all_zero, is_zero_text}
+use Rattle.text.specs.declared.Optional.{Optional}
+use Rattle.text.specs.declared.Text.{Text}
+use Rattle.text.specs.Texts.{all_zero, is_zero_text, is_no_text, zero_text, no_text}
+use Rattle.metadata.specs.Rooms.{replica_room}
 use Rattle.metadata.specs.Tables.{
-  is_zero_name,
   is_zero_replica,
   is_zero_id,
   is_zero_node,
@@ -33,10 +33,6 @@ use Rattle.metadata.specs.Tables.{
   zero_retirement,
 }
 use Rattle.metadata.specs.declared.NodeId.{NodeId}
-use Rattle.metadata.specs.Texts.{Name}
-use Rattle.metadata.specs.Texts.{Label}
-use Rattle.metadata.specs.Texts.{Key}
-use Rattle.metadata.specs.Texts.{OptionalLabel}
 use Rattle.metadata.specs.declared.NodeDescriptor.{NodeDescriptor}
 use Rattle.metadata.specs.declared.TabletDescriptor.{TabletDescriptor}
 use Rattle.metadata.specs.declared.DesiredReplica.{DesiredReplica}
@@ -56,29 +52,18 @@ zeros test z room l f e =
 zero_number : (n : ℕ) → is_zero n ≡ true → n ≡ 0
 zero_number n e = eqb-true n 0 e
 
-zero_text : (width len : ℕ) (bytes : List ℕ) → is_zero_text width len bytes ≡ true → (len ≡ 0) × (bytes ≡ replicate width 0)
-unfolding is_zero_text
-zero_text width len bytes e =
-    let g = and_both (is_zero len) (all_zero is_zero width bytes) e in
-    (zero_number len g.0, zeros is_zero 0 width bytes zero_number g.1)
+-- ---- texts of any width
+module _ {n : ℕ} where
+  zero_text_lem : (t : Text n) → is_zero_text n t.len t.bytes ≡ true → t ≡ zero_text
+  unfolding is_zero_text
+  zero_text_lem t e =
+      let g = and_both (is_zero t.len) (all_zero is_zero n t.bytes) e in
+      λ i. record { len = zero_number t.len g.0 i; bytes = zeros is_zero 0 n t.bytes zero_number g.1 i }
 
--- ---- texts
-
-zero_name_lem : (t : Name) → is_zero_name t ≡ true → t ≡ zero_name
-zero_name_lem t e = let g = zero_text name_width t.len t.bytes e in λ i. record { len = g.0 i; bytes = g.1 i }
-
-zero_label_lem : (t : Label) → is_zero_text label_width t.len t.bytes ≡ true → t ≡ zero_label
-zero_label_lem t e = let g = zero_text label_width t.len t.bytes e in λ i. record { len = g.0 i; bytes = g.1 i }
-
-zero_key_lem : (t : Key) → is_zero_text key_width t.len t.bytes ≡ true → t ≡ zero_key
-zero_key_lem t e = let g = zero_text key_width t.len t.bytes e in λ i. record { len = g.0 i; bytes = g.1 i }
-
-no_label_lem : (t : OptionalLabel) → is_no_label t ≡ true → t ≡ no_label
-no_label_lem t e =
-    let g = and_both (not t.present) (is_zero_text label_width t.text.len t.text.bytes) e in
-    let p : t.present ≡ false = not-true t.present g.0 in
-    let q : t.text ≡ zero_label = zero_label_lem t.text g.1 in
-    λ i. record { present = p i; text = q i }
+  no_text_lem : (t : Optional n) → is_no_text t ≡ true → t ≡ no_text
+  no_text_lem t e =
+      let g = and_both (not t.present) (is_zero_text n t.text.len t.text.bytes) e in
+      λ i. record { present = not-true t.present g.0 i; text = zero_text_lem t.text g.1 i }
 
 -- ---- rows
 
@@ -98,14 +83,14 @@ zero_node_lem n e =
     λ i.
     record {
       node_id = record { 0 = zero_number n.node_id.0 g.0 i };
-      raft_addr = zero_name_lem n.raft_addr g.1.0 i;
-      snapshot_addr = zero_name_lem n.snapshot_addr g.1.1.0 i;
-      sql_addr = zero_name_lem n.sql_addr g.1.1.1.0 i;
-      admin_addr = zero_name_lem n.admin_addr g.1.1.1.1.0 i;
-      region = no_label_lem n.region g.1.1.1.1.1.0 i;
-      zone = no_label_lem n.zone g.1.1.1.1.1.1.0 i;
-      rack = no_label_lem n.rack g.1.1.1.1.1.1.1.0 i;
-      storage_class = zero_label_lem n.storage_class g.1.1.1.1.1.1.1.1.0 i;
+      raft_addr = zero_text_lem n.raft_addr g.1.0 i;
+      snapshot_addr = zero_text_lem n.snapshot_addr g.1.1.0 i;
+      sql_addr = zero_text_lem n.sql_addr g.1.1.1.0 i;
+      admin_addr = zero_text_lem n.admin_addr g.1.1.1.1.0 i;
+      region = no_text_lem n.region g.1.1.1.1.1.0 i;
+      zone = no_text_lem n.zone g.1.1.1.1.1.1.0 i;
+      rack = no_text_lem n.rack g.1.1.1.1.1.1.1.0 i;
+      storage_class = zero_text_lem n.storage_class g.1.1.1.1.1.1.1.1.0 i;
       lifecycle = zero_number n.lifecycle g.1.1.1.1.1.1.1.1.1.0 i;
     }
 
@@ -130,8 +115,8 @@ zero_tablet_lem t e =
             kind = zero_number t.partition.kind g.1.1.1.1.0 i;
             bucket = zero_number t.partition.bucket g.1.1.1.1.1.0 i;
             bucket_count = zero_number t.partition.bucket_count g.1.1.1.1.1.1.0 i;
-            start_key = zero_key_lem t.partition.start_key g.1.1.1.1.1.1.1.0 i;
-            end_key = zero_key_lem t.partition.end_key g.1.1.1.1.1.1.1.1.0 i;
+            start_key = zero_text_lem t.partition.start_key g.1.1.1.1.1.1.1.0 i;
+            end_key = zero_text_lem t.partition.end_key g.1.1.1.1.1.1.1.1.0 i;
           };
     }
 
@@ -145,7 +130,7 @@ zero_policy q e =
       min_distinct_regions = zero_number q.min_distinct_regions g.1.0 i;
       min_distinct_zones = zero_number q.min_distinct_zones g.1.1.0 i;
       min_distinct_racks = zero_number q.min_distinct_racks g.1.1.1.0 i;
-      required_storage_class = no_label_lem q.required_storage_class g.1.1.1.1.0 i;
+      required_storage_class = no_text_lem q.required_storage_class g.1.1.1.1.0 i;
       preferred_leader_count = zero_number q.preferred_leader_count g.1.1.1.1.1.0 i;
       preferred_leader_nodes = zeros is_zero_id (record { 0 = 0 }) replica_room q.preferred_leader_nodes zero_id g.1.1.1.1.1.1.0 i;
     }
@@ -178,6 +163,7 @@ zero_retirement_lem x e =
     }
 
 -- ---- and the rows of zeros pass
+-- One law for each row type: each unfolds its own test on its own row of zeros.
 
 pub node_passes : is_zero_node zero_node ≡ true
 unfolding is_zero_node all_of is_zero_text all_zero

@@ -117,6 +117,7 @@ apply s (retirement x) =
 apply s picking = s
 
 -- ---- the store: the tables at their fixed room, rows past the count zero
+-- a name for each table, a line each, by the general `pack` at its row of zeros
 
 abbrev pub pack_nodes : List NodeDescriptor → Nodes
 pack_nodes l = pack_table zero_node l
@@ -149,6 +150,7 @@ pack_catalog c =
 abbrev pub pack : StoreRows → Store
 pack s = record { directory = pack_directory s.directory; catalog = pack_catalog s.catalog }
 
+-- the rows of each table: a name for each, a line each
 abbrev pub view_nodes : Nodes → List NodeDescriptor
 view_nodes t = take t.count t.rows
 

@@ -20,6 +20,7 @@ use Rattle.metadata.specs.declared.RetiredReplicaLifetime.{RetiredReplicaLifetim
 use Rattle.metadata.specs.declared.TableRow.{TableRow}
 
 -- ---- one table for each kind of row
+-- document 01's tables, a name and a line each
 
 abbrev pub Nodes : Type 0
 Nodes = Table NodeDescriptor node_room
@@ -37,6 +38,7 @@ abbrev pub Retirements : Type 0
 Retirements = Table RetiredReplicaLifetime retirement_room
 
 -- ---- keys: rows rise by them
+-- the key of each table, a name and a line each
 
 abbrev pub node_key : Keyed NodeDescriptor
 node_key = by_number (λ n. n.node_id.0)
@@ -209,6 +211,7 @@ zero_retirement =
       removal_term = 0;
     }
 
+-- the tests for zeros, a name for each type as document 01 has them
 abbrev pub is_zero_name : Name → Bool
 is_zero_name t = is_zero_text name_width t.len t.bytes
 
@@ -330,6 +333,7 @@ blank_placement =
     }
 
 -- ---- lookups
+-- the row of each table under an id, a name and a line each
 
 abbrev pub node_of : ℕ → List NodeDescriptor → NodeDescriptor
 node_of = row node_key blank_node

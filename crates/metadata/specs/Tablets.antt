@@ -23,6 +23,7 @@ use Rattle.metadata.specs.Tables.{
 }
 use Rattle.metadata.specs.declared.Answer.{Answer}
 use Rattle.metadata.specs.declared.Answer.TheVariants as A
+use Rattle.metadata.specs.declared.kinds.TableKind.TheVariants as K
 use Rattle.metadata.specs.declared.TableRow.{TableRow}
 use Rattle.metadata.specs.declared.TableId.{TableId}
 use Rattle.metadata.specs.declared.PartitionSpec.{PartitionSpec}
@@ -72,7 +73,7 @@ judge_new_tablet tables tablets t =
     refuse (has group_key t.raft_group_id.0 tablets) (A.RaftGroupConflict t.raft_group_id)
     ⊳ refuse (not (has table_key t.table_id.0 tables)) (A.UnknownTable t.table_id)
     ⊳ cond (is_hash t) (judge_hash tables tablets t) (judge_range tablets t)
-    ⊳ refuse (leb tablet_room (length tablets)) (A.TableFull 1 tablet_room)
+    ⊳ refuse (leb tablet_room (length tablets)) (A.TableFull K.Tablets tablet_room)
 
 -- "id known: AlreadyApplied if equal, else 18 TabletIdConflict (tablet)"
 unfoldable pub judge_tablet : List TableRow → List TabletDescriptor → TabletDescriptor → Answer
@@ -107,7 +108,7 @@ judge_new_retirement t placements retirements x =
     let stored : ℕ = (placement_of t.tablet_id.0 placements).configuration_epoch in
     refuse (not (has placement_key t.tablet_id.0 placements)) (A.UnknownTablet t.tablet_id)
     ⊳ refuse (not (eqb x.desired_configuration_epoch stored)) (A.PlacementEpochMismatch t.tablet_id stored x.desired_configuration_epoch)
-    ⊳ refuse (leb retirement_room (length retirements)) (A.TableFull 2 retirement_room)
+    ⊳ refuse (leb retirement_room (length retirements)) (A.TableFull K.Retirements retirement_room)
 
 -- "35 UnknownRaftGroup (group); 36 RetirementStillDesired (group, replica)"
 unfoldable pub judge_retirement : List TabletDescriptor → List DesiredReplicaPlacement → List RetiredReplicaLifetime → RetiredReplicaLifetime → Answer

@@ -5,6 +5,8 @@ use Rattle.text.specs.declared.Text.{Text}
 use Rattle.text.specs.declared.Optional.{Optional}
 use Rattle.metadata.specs.Rooms.{name_width, label_width, key_width}
 
+-- ---- document 01's names for texts of three widths, a line each that cites the general one
+
 -- "Endpoints and cluster name: 1 to 48 bytes"
 abbrev pub Name : Type 0
 Name = Text name_width
@@ -23,6 +25,7 @@ OptionalName = Optional name_width
 abbrev pub OptionalLabel : Type 0
 OptionalLabel = Optional label_width
 
+-- the bytes of each, and when two are the same
 abbrev pub name_text : Name → List ℕ
 name_text t = T.text_of t
 
@@ -44,6 +47,8 @@ same_key a b = T.same a b
 -- "A present label of length 0 is a label and differs from absent"
 abbrev pub same_optional : OptionalLabel → OptionalLabel → Bool
 same_optional a b = T.same_optional a b
+
+-- ---- what is admitted of each, and when each fits its width: names, a line each
 
 -- "endpoint bytes outside 0x21 to 0x7E"
 abbrev pub endpoint_admitted : Name → Bool
@@ -80,6 +85,7 @@ abbrev pub optional_admitted : OptionalLabel → Bool
 optional_admitted t = T.optional_admitted 0 32 126 t
 
 -- ---- nothing
+-- the zeros and the blank of each width: names, a line each
 
 abbrev pub zero_name : Name
 zero_name = T.zero_text

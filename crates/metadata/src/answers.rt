@@ -75,7 +75,7 @@ impl Answer {
             Answer::RetiredReplicaReuse(group, replica) => with_operands(28, group.0, replica.0, 0),
             Answer::PlacementDomainUnsatisfied(domain, required, observed) => with_operands(
                 29,
-                u64::from(domain),
+                u64::from(domain.number()),
                 u64::from(required),
                 u64::from(observed),
             ),
@@ -98,10 +98,10 @@ impl Answer {
                 37, group.0, replica.0, 0,
             ),
             Answer::NoRegisteredNodes => with_operands(38, 0, 0, 0),
-            Answer::TableFull(kind, limit) => with_operands(39, u64::from(kind), limit, 0),
-            Answer::BadTape(reason, byte) => with_operands(
+            Answer::TableFull(kind, limit) => with_operands(39, u64::from(kind.number()), limit, 0),
+            Answer::BadTape(fault, byte) => with_operands(
                 40,
-                u64::from(reason),
+                u64::from(fault.number()),
                 u64::from(byte),
                 0,
             ),

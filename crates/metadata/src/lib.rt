@@ -4,9 +4,12 @@ ghost use Rattle.std.specs.Prelude.{◌≡◌};
 ghost use Rattle.metadata.specs.Marks.{initial_marks, next_replica_id};
 
 mod answers;
+mod kinds;
 mod lifecycle;
+mod placements;
 mod rows;
 
+pub use kinds::{Domain, TableKind, TapeFault};
 pub use lifecycle::NodeLifecycle;
 pub use rows::ReplicaKey;
 use table::Table;
@@ -32,6 +35,7 @@ pub const KEY_WIDTH: usize = 32;
 // select_initial_placement takes at most this many nodes.
 pub const INITIAL_REPLICATION_FACTOR: usize = 3;
 
+// The five kinds of ids are types of their own, as in the source: one generic type would need a sixth to tell them apart.
 #[derive(Clone, Copy, PartialEq, Eq, PartialOrd, Ord)]
 pub struct NodeId(pub u64);
 
@@ -58,6 +62,8 @@ pub type OptionalName = Optional<NAME_WIDTH>;
 
 pub type OptionalLabel = Optional<LABEL_WIDTH>;
 
+// Lifecycle, kind and role are bytes in the rows, as on the tape: a command may bring any byte, which reason 5 refuses, and an enum could not hold it.
+// Which station a lifecycle is, is read as an enum (`NodeLifecycle::from_number`), but for `is_active`; a kind and a role are asked by one comparison each time.
 #[derive(Clone, Copy)]
 pub struct NodeDescriptor {
     pub node_id: NodeId,
@@ -100,6 +106,7 @@ pub struct DesiredReplica {
     pub role: u8,
 }
 
+// Lists in rows are arrays with a count beside them, as on the tape: memory is fixed, and reasons 7 and 9 judge the unused places.
 #[derive(Clone, Copy)]
 pub struct PlacementPolicy {
     pub replication_factor: u32,
@@ -211,7 +218,8 @@ pub struct Store {
     pub catalog: Catalog,
 }
 
-// Document 01's answers and refusals, from 0 on; specs/Answers.antt gives each its number and operands.
+// Document 01's answers and refusals, from 0 on; specs/Answers.antt gives each its number and operands. An operand is a
+// number here where it repeats one that was brought (a lifecycle, a byte), or where document 01 counts: the lowest reason, the place of a field.
 #[derive(Clone, Copy)]
 pub enum Answer {
     Applied,
@@ -236,7 +244,7 @@ pub enum Answer {
     NodeNotEligible(NodeId, u8),
     PlacementStorageClassMismatch(NodeId),
     RetiredReplicaReuse(RaftGroupId, ReplicaId),
-    PlacementDomainUnsatisfied(u8, u32, u32),
+    PlacementDomainUnsatisfied(Domain, u32, u32),
     InitialPlacementEpoch(TabletId, u64),
     PlacementEpochExhausted(TabletId),
     PlacementEpochMismatch(TabletId, u64, u64),
@@ -246,11 +254,11 @@ pub enum Answer {
     RetirementStillDesired(RaftGroupId, ReplicaId),
     RetirementProofConflict(RaftGroupId, ReplicaId),
     NoRegisteredNodes,
-    TableFull(u8, u64),
-    BadTape(u8, u8),
+    TableFull(TableKind, u64),
+    BadTape(TapeFault, u8),
 }
 
-// The seven commands of the tape.
+// The seven commands of the tape. The lifecycle that is asked for may be any byte.
 #[derive(Clone, Copy)]
 pub enum Command {
     Naming(Name),
@@ -262,21 +270,21 @@ pub enum Command {
     Picking,
 }
 
-// An answer as document 01 prints it.
+// An answer as document 01 prints it: there an answer is a number with three operands.
 #[derive(Clone, Copy)]
 pub struct Reported {
     pub number: u8,
     pub operands: [u64; 3],
 }
 
-// What an entry point returns.
+// What an opening gives: its answer, and the store, which is there where it is refused too. So it is no `Result`.
 #[derive(Clone, Copy)]
 pub struct Answered {
     pub answer: Answer,
     pub store: Store,
 }
 
-// The first choice: the nodes in order of choice, zero where a place is not filled, and their policy.
+// The first choice: the nodes in order of choice, zero where a place is not filled, and their policy. An array with its count, since there is no heap.
 #[derive(Clone, Copy)]
 pub struct InitialPlacement {
     pub node_count: u8,

@@ -45,13 +45,6 @@ impl NodeLifecycle {
 }
 
 impl NodeDescriptor {
-    // The node's station; none where a row that no command gives has a number above 4.
-    pub fn station(&self) -> Option<NodeLifecycle>
-        ensures { result ≡ station self.now.lifecycle }
-    {
-        NodeLifecycle::from_number(self.lifecycle)
-    }
-
     pub fn is_active(&self) -> bool
         ensures { result ≡ eqb self.now.lifecycle 0 }
     {

@@ -1,20 +1,16 @@
 // What the rows of the tables are: what they list, when two are the same, their keys, and the rows of zeros.
-ghost use Rattle.laws.specs.Lists.{every};
-ghost use Rattle.metadata.specs.Tables.{node_key, table_key, tablet_key, placement_key, retirement_key, desired, leaders, endpoints, same_node_directory, same_node, same_tablet, same_policy, same_placement, same_retirement, zero_replica, zero_node, zero_table, zero_tablet, zero_placement, zero_retirement, is_zero_replica, is_zero_id, is_zero_node, is_zero_table, is_zero_tablet, is_zero_policy, is_zero_placement, is_zero_retirement};
-ghost use Rattle.metadata.specs.Rooms.{replica_room};
-ghost use Rattle.text.specs.Texts.{all_zero};
-ghost use Rattle.std.specs.Prelude.{◌≡◌, drop};
+ghost use Rattle.metadata.specs.Tables.{node_key, table_key, tablet_key, retirement_key, same_node_directory, same_node, same_tablet, same_retirement, zero_node, zero_table, zero_tablet, zero_retirement, is_zero_node, is_zero_table, is_zero_tablet, is_zero_retirement};
+ghost use Rattle.std.specs.Prelude.{◌≡◌, length};
 
 use crate::{
-    DesiredReplica, DesiredReplicaPlacement, NodeDescriptor, NodeId, PartitionSpec,
-    PlacementPolicy, REPLICA_ROOM, RaftGroupId, ReplicaId, RetiredReplicaLifetime, TableId,
+    NodeDescriptor, NodeId, PartitionSpec, RaftGroupId, ReplicaId, RetiredReplicaLifetime, TableId,
     TableRow, TabletDescriptor, TabletId,
 };
 use table::Row;
 use text::{Optional, Text};
 
 impl NodeDescriptor {
-    // All but the lifecycle.
+    // All but the lifecycle, so it is no `PartialEq`.
     #[tactic(auto, unfolding(laws::specs::Tests::all_of, crate::specs::Tables::same_node_directory))]
     pub fn same_directory(&self, other: &Self) -> bool
         ensures { result ≡ same_node_directory self.now other.now }
@@ -30,6 +26,7 @@ impl NodeDescriptor {
             && self.storage_class == other.storage_class
     }
 
+    // The same directory and the same lifecycle, as document 01 has it: a derived `==` would say that beside `same_directory`, which is asked alone too.
     #[tactic(auto, unfolding(laws::specs::Tests::all_of, crate::specs::Tables::same_node))]
     pub fn is_same(&self, other: &Self) -> bool
         ensures { result ≡ same_node self.now other.now }
@@ -38,6 +35,9 @@ impl NodeDescriptor {
     }
 }
 
+// The methods stand once for each row, as a trait has it; a default over `Key: Ord` would need the order of each key type as a law of its own.
+// `zero` and `is_zero` are no derived `Default` and `==`: a text of zeros is zero in its padding too, which `==` of texts leaves out, and an array of any length has no derived default.
+// In the rows without a text they stand because the trait asks each row for them.
 impl Row for NodeDescriptor {
     type Key = NodeId;
 
@@ -128,6 +128,7 @@ impl Row for TableRow {
 }
 
 impl TabletDescriptor {
+    // The derived `==`, by the name that a node and a placement have for sameness.
     #[tactic(auto, unfolding(laws::specs::Tests::all_of, crate::specs::Tables::same_tablet, crate::specs::Tables::same_partition))]
     pub fn is_same(&self, other: &Self) -> bool
         ensures { result ≡ same_tablet self.now other.now }
@@ -189,170 +190,6 @@ impl Row for TabletDescriptor {
     }
 }
 
-impl DesiredReplica {
-    pub fn zero() -> Self
-        ensures { result ≡ zero_replica }
-    {
-        DesiredReplica {
-            replica_id: ReplicaId(0),
-            node_id: NodeId(0),
-            role: 0,
-        }
-    }
-
-    pub fn is_zero(&self) -> bool
-        ensures { result ≡ is_zero_replica self.now }
-    {
-        self.replica_id.0 == 0 && self.node_id.0 == 0 && self.role == 0
-    }
-}
-
-impl NodeId {
-    pub fn is_zero(&self) -> bool
-        ensures { result ≡ is_zero_id self.now }
-    {
-        self.0 == 0
-    }
-}
-
-impl PlacementPolicy {
-    // The preferred leaders; a count above the room makes all places used.
-    pub fn leaders(&self) -> &[NodeId]
-        ensures { result.now ≡ leaders self.now }
-    {
-        &self.preferred_leader_nodes[..(self.preferred_leader_count as usize).min(REPLICA_ROOM)]
-    }
-
-    pub fn unused_leaders(&self) -> &[NodeId]
-        ensures { result.now ≡ drop self.now.preferred_leader_count self.now.preferred_leader_nodes }
-    {
-        &self.preferred_leader_nodes[(self.preferred_leader_count as usize).min(REPLICA_ROOM)..]
-    }
-
-    pub fn zero() -> Self
-        ensures { result ≡ zero_placement.placement_policy }
-    {
-        PlacementPolicy {
-            replication_factor: 0,
-            min_distinct_regions: 0,
-            min_distinct_zones: 0,
-            min_distinct_racks: 0,
-            required_storage_class: Optional::none(),
-            preferred_leader_count: 0,
-            preferred_leader_nodes: [NodeId(0); REPLICA_ROOM],
-        }
-    }
-
-    #[tactic(auto, unfolding(laws::specs::Tests::all_of, crate::specs::Tables::is_zero_policy))]
-    pub fn is_zero(&self) -> bool
-        ensures { result ≡ is_zero_policy self.now }
-    {
-        self.replication_factor == 0
-            && self.min_distinct_regions == 0
-            && self.min_distinct_zones == 0
-            && self.min_distinct_racks == 0
-            && self.required_storage_class.is_none()
-            && self.preferred_leader_count == 0
-            && self.no_leaders()
-    }
-
-    // Every place is zero.
-    #[tactic(auto, unfolding(text::specs::Texts::all_zero))]
-    fn no_leaders(&self) -> bool
-        ensures { result ≡ all_zero is_zero_id replica_room self.now.preferred_leader_nodes }
-    {
-        self.preferred_leader_nodes == [NodeId(0); REPLICA_ROOM]
-    }
-
-    #[tactic(auto, unfolding(laws::specs::Tests::all_of, crate::specs::Tables::same_policy))]
-    pub fn is_same(&self, other: &Self) -> bool
-        ensures { result ≡ same_policy self.now other.now }
-    {
-        self.replication_factor == other.replication_factor
-            && self.min_distinct_regions == other.min_distinct_regions
-            && self.min_distinct_zones == other.min_distinct_zones
-            && self.min_distinct_racks == other.min_distinct_racks
-            && self.required_storage_class == other.required_storage_class
-            && self.leaders() == other.leaders()
-    }
-}
-
-impl DesiredReplicaPlacement {
-    // The desired replicas; a count above the room makes all places used.
-    pub fn desired(&self) -> &[DesiredReplica]
-        ensures { result.now ≡ desired self.now }
-    {
-        &self.replicas[..(self.replica_count as usize).min(REPLICA_ROOM)]
-    }
-
-    // Every place is zero.
-    #[tactic(auto, unfolding(text::specs::Texts::all_zero))]
-    fn no_replicas(&self) -> bool
-        ensures { result ≡ all_zero is_zero_replica replica_room self.now.replicas }
-    {
-        self.replicas == [DesiredReplica::zero(); REPLICA_ROOM]
-    }
-
-    pub fn unused_replicas(&self) -> &[DesiredReplica]
-        ensures { result.now ≡ drop self.now.replica_count self.now.replicas }
-    {
-        &self.replicas[(self.replica_count as usize).min(REPLICA_ROOM)..]
-    }
-
-    #[tactic(auto, unfolding(laws::specs::Tests::all_of, crate::specs::Tables::same_placement))]
-    pub fn is_same(&self, other: &Self) -> bool
-        ensures { result ≡ same_placement self.now other.now }
-    {
-        self.tablet_id == other.tablet_id
-            && self.configuration_epoch == other.configuration_epoch
-            && self.desired() == other.desired()
-            && self.placement_policy.is_same(&other.placement_policy)
-    }
-}
-
-impl Row for DesiredReplicaPlacement {
-    type Key = TabletId;
-
-    ghost keyed = { placement_key };
-
-    ghost key_of = { λ k. k.0 };
-
-    ghost zero_row = { zero_placement };
-
-    ghost is_zero_row = { is_zero_placement };
-
-    fn has_key(&self, key: TabletId) -> bool {
-        key == self.tablet_id
-    }
-
-    fn is_before(&self, other: &Self) -> bool {
-        other.tablet_id > self.tablet_id
-    }
-
-    fn is_same_key(&self, other: &Self) -> bool {
-        other.tablet_id == self.tablet_id
-    }
-
-    fn zero() -> Self {
-        DesiredReplicaPlacement {
-            tablet_id: TabletId(0),
-            configuration_epoch: 0,
-            replica_count: 0,
-            replicas: [DesiredReplica::zero(); REPLICA_ROOM],
-            placement_policy: PlacementPolicy::zero(),
-        }
-    }
-
-    #[tactic(auto, unfolding(laws::specs::Tests::all_of, crate::specs::Tables::is_zero_placement))]
-    fn is_zero(&self) -> bool {
-        self.tablet_id.0 == 0
-            && self.configuration_epoch == 0
-            && self.replica_count == 0
-            && self.no_replicas()
-            && self.placement_policy.is_zero()
-    }
-}
-
 // A replica number in its group.
 #[derive(Clone, Copy, PartialEq, Eq, PartialOrd, Ord)]
 pub struct ReplicaKey {
@@ -370,6 +207,7 @@ impl RetiredReplicaLifetime {
         }
     }
 
+    // The derived `==`, by the same name.
     #[tactic(auto, unfolding(laws::specs::Tests::all_of, crate::specs::Tables::same_retirement))]
     pub fn is_same(&self, other: &Self) -> bool
         ensures { result ≡ same_retirement self.now other.now }

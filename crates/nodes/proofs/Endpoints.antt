@@ -1,10 +1,9 @@
 -- The search for a clash of endpoints: within one node's, over the new node's fields, and over the nodes. Assumes nothing.
-use Rattle.std.specs.Prelude.{◌≡◌, ℕ, suc, ◌+◌, ◌<◌, ◌≤◌, List, [], ◌∷◌, Option, Some, None, map, length, get_or, drop, position, cond}
+use Rattle.std.specs.Prelude.{◌≡◌, ℕ, suc, ◌+◌, ◌<◌, ◌≤◌, List, [], ◌∷◌, Option, Some, None, map, length, get_or, drop, cond}
 use Rattle.std.proofs.Common.{rules, refl, sym, ap, ◌∙◌, arith, add-one}
 use lib.ListN.{drop_of_length-le, length-map}
 use lib.Seq.{drop-cons}
 use Rattle.laws.specs.Rows.{find_from, find_index}
-use Rattle.laws.proofs.Found.{position_is}
 use Rattle.metadata.specs.Nodes.{clash_fields, clash}
 use Rattle.metadata.specs.Tables.{endpoints}
 use Rattle.metadata.specs.Texts.{Name, same_name}
@@ -18,8 +17,8 @@ module _ {B : Type 0} (v : B → Name) where
   mapped_from t i (x ∷ xs) = ap (cond (same_name (v x) t) (Some i)) (mapped_from t (suc i) xs)
 
   -- the first that reads t, as the definition has it
-  pub first_equal : (t : Name) (xs : List B) (l : List Name) → map v xs ≡ l → position (λ x. same_name (v x) t) xs ≡ find_index (λ e. same_name e t) l
-  first_equal t xs l e = position_is (λ x. same_name (v x) t) xs ∙ mapped_from t 0 xs ∙ ap (find_index (λ e. same_name e t)) e
+  pub first_equal : (t : Name) (xs : List B) (l : List Name) → map v xs ≡ l → find_index (λ x. same_name (v x) t) xs ≡ find_index (λ e. same_name e t) l
+  first_equal t xs l e = mapped_from t 0 xs ∙ ap (find_index (λ e. same_name e t)) e
 
   -- the new node's fields before j, which are those of xs, clash with none of the existing node's
   pub record Fields (old new : NodeDescriptor) (xs : List B) (j : ℕ) : Type 0 where
@@ -72,4 +71,5 @@ module _ {new : NodeDescriptor} {nodes xs : List NodeDescriptor} where
     unfolding clash
     rows_stop c e = sym (s.left ∙ rw (drop-cons xs i d h, e))
 
+-- for `using` on `clash`: its two loops
 pub ruleset searching = (fields_start, fields_end, rows_start, rows_next, rows_end, rules)

@@ -1,5 +1,5 @@
 -- The laws that belong to no one function. Assumes nothing.
 pub mod Advance
 pub mod Endpoints
-pub mod Known
+pub mod Expected
 pub mod Packed

@@ -5,6 +5,7 @@ ghost use Rattle.std.specs.Prelude.{◌≡◌};
 use metadata::{NodeDescriptor, NodeId, Nodes};
 
 // The node under the id moves on.
+// `to` is the byte that the command brought and admission let through, and a row holds a byte. The id and the byte are the operands of the command, as it holds them.
 pub fn move_node(nodes: &mut Nodes, k: NodeId, to: u8)
     ensures { nodes.new ≡ nodes_moved nodes.old k to }
 {

@@ -15,7 +15,7 @@ fn endpoints(n: &NodeDescriptor) -> [&Name; 4]
     [&n.raft_addr, &n.snapshot_addr, &n.sql_addr, &n.admin_addr]
 }
 
-// Which of the node's endpoints is t.
+// Which of the node's endpoints is t. There are four, in no order, so each is compared.
 fn clash_at(old: &NodeDescriptor, t: &Name) -> Option<usize>
     ensures found { result ≡ find_index (λ e. same_name e t.now) (endpoints old.now) }
     ensures within { IfSome result (λ i. i < 4) }

@@ -11,6 +11,7 @@ use metadata::{
     Placements, TabletDescriptor, Tablets,
 };
 
+// `from` and `to` are the bytes that rows and commands hold; what is no station is answered, and not ruled out by a type.
 // Only one step forward; no move from or to what is no station.
 #[tactic(auto, using(crate::proofs::Advance::by_stations))]
 pub fn lifecycle_can_advance(from: u8, to: u8) -> bool
@@ -58,7 +59,7 @@ fn expected_in(k: NodeId, t: &TabletDescriptor, p: &DesiredReplicaPlacement) -> 
 }
 
 // No copy of the tablet stands on the node; without a placement there is none.
-#[tactic(auto, unfolding(crate::specs::Steps::expected_of, metadata::specs::Answers::each), using(crate::proofs::Known::placement_there, crate::proofs::Known::no_placement))]
+#[tactic(auto, unfolding(crate::specs::Steps::expected_of, metadata::specs::Answers::each), using(metadata::proofs::Lookups::placement_there, laws::proofs::KeyedLaws::row_absent))]
 fn expected_of(k: NodeId, t: &TabletDescriptor, placements: &Placements) -> Result<(), Answer>
     ensures { Gives result (expected_of k (view_placements placements.now) t.now) }
 {
@@ -69,7 +70,7 @@ fn expected_of(k: NodeId, t: &TabletDescriptor, placements: &Placements) -> Resu
 }
 
 // No copy stands on the node: asked by tablet id, then in the placement's order.
-#[tactic(auto, using(metadata::proofs::Each::each_rules, crate::proofs::Known::by_tablet))]
+#[tactic(auto, using(metadata::proofs::Each::each_rules, crate::proofs::Expected::by_tablet))]
 pub fn still_expected(k: NodeId, tablets: &Tablets, placements: &Placements) -> Result<(), Answer>
     ensures { Gives result (still_expected k (view_tablets tablets.now) (view_placements placements.now)) }
 {
@@ -80,6 +81,7 @@ pub fn still_expected(k: NodeId, tablets: &Tablets, placements: &Placements) -> 
 }
 
 // Whether a node that is known may move there, by its row; who expects it is asked only where it leaves.
+// `k` and `to` are the operands of the command, here and below; registering brings them in a row.
 #[tactic(auto, unfolding(crate::specs::Steps::judge_move, metadata::specs::Answers::refuse, metadata::specs::Answers::and_then))]
 pub fn judge_move(
     old: &NodeDescriptor,
@@ -104,7 +106,8 @@ pub fn judge_move(
 }
 
 // The same by its id.
-#[tactic(auto, unfolding(metadata::specs::Answers::refuse, metadata::specs::Answers::and_then), using(crate::proofs::Known::lifecycle_by_row, crate::proofs::Known::node_there))]
+// A check is lent the tables that it reads, one by one: a struct of all four would hide which it reads.
+#[tactic(auto, unfolding(metadata::specs::Nodes::judge_lifecycle, crate::specs::Steps::judge_move, metadata::specs::Answers::refuse, metadata::specs::Answers::and_then), using(metadata::proofs::Lookups::node_there))]
 pub fn judge_lifecycle(
     nodes: &Nodes,
     tablets: &Tablets,

@@ -6,13 +6,10 @@ ghost use Rattle.nodes.specs.Steps.{judge_known_row};
 
 use crate::clashes::clash;
 use crate::lifecycle::judge_move;
-use metadata::{Answer, NODE_ROOM, NodeDescriptor, Nodes, Placements, Tablets};
+use metadata::{Answer, NODE_ROOM, NodeDescriptor, Nodes, Placements, TableKind, Tablets};
 
-// In refusal 15, where a node that is new comes from.
+// In refusal 15, where a node that is new comes from: document 01's number, of no station.
 const UNREGISTERED: u8 = 5;
-
-// In refusal 39, the table of the nodes.
-const NODE_TABLE: u8 = 0;
 
 // A node whose id is new: its endpoints clash with none, it is Active, and a row is left.
 #[tactic(auto, unfolding(metadata::specs::Nodes::judge_new_node, metadata::specs::Answers::refuse, metadata::specs::Answers::and_then))]
@@ -25,8 +22,8 @@ pub fn judge_new_node(nodes: &Nodes, n: &NodeDescriptor) -> Result<(), Answer>
     if !n.is_active() {
         return Err(Answer::InvalidNodeLifecycleTransition(n.node_id, UNREGISTERED, n.lifecycle));
     }
-    if NODE_ROOM <= nodes.used().len() {
-        return Err(Answer::TableFull(NODE_TABLE, NODE_ROOM as u64));
+    if nodes.is_full() {
+        return Err(Answer::TableFull(TableKind::Nodes, NODE_ROOM as u64));
     }
     Ok(())
 }
@@ -51,7 +48,7 @@ fn judge_known_node(
 }
 
 // By its id: a node that is known, or a new one.
-#[tactic(auto, unfolding(metadata::specs::Nodes::judge_registering), using(crate::proofs::Known::known_by_row, crate::proofs::Known::node_there))]
+#[tactic(auto, unfolding(metadata::specs::Nodes::judge_registering, metadata::specs::Nodes::judge_known_node, metadata::specs::Nodes::judge_lifecycle, crate::specs::Steps::judge_known_row, crate::specs::Steps::judge_move, metadata::specs::Answers::refuse, metadata::specs::Answers::and_then), using(metadata::proofs::Lookups::node_there))]
 pub fn judge_registering(
     nodes: &Nodes,
     tablets: &Tablets,

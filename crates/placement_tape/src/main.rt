@@ -13,7 +13,7 @@ use std::io::Print;
 // How much of an argument is read; a longer one is not --dump.
 const WORD_ROOM: usize = 4096;
 
-// What is asked of the program.
+// What is asked of the program. Neither way lacks a value that the other has, so it is no `Option`.
 #[derive(Clone, Copy, PartialEq, Eq)]
 enum Mode {
     Lines,

@@ -11,6 +11,7 @@ use Rattle.metadata.specs.declared.RaftGroupId.{RaftGroupId}
 use Rattle.placements.specs.Domains.{judge_spread}
 use Rattle.metadata.specs.declared.Answer.{Answer}
 use Rattle.metadata.specs.declared.Answer.TheVariants as A
+use Rattle.metadata.specs.declared.kinds.TableKind.TheVariants as K
 use Rattle.metadata.specs.declared.NodeDescriptor.{NodeDescriptor}
 use Rattle.metadata.specs.declared.TabletDescriptor.{TabletDescriptor}
 use Rattle.metadata.specs.declared.DesiredReplicaPlacement.{DesiredReplicaPlacement}
@@ -57,7 +58,7 @@ module _ (nodes : List NodeDescriptor) (tablets : List TabletDescriptor) (placem
       ⊳ judge_domains nodes p
       ⊳ cond t (judge_epoch_after (Some q) p) (judge_epoch_after None p)
       ⊳ judge_kept_replicas (desired q) (desired p)
-      ⊳ refuse (not t && leb tablet_room (length placements)) (A.TableFull 1 tablet_room)
+      ⊳ refuse (not t && leb tablet_room (length placements)) (A.TableFull K.Tablets tablet_room)
       ≡ judge_new_after nodes retirements group o (length placements) p
   after_go None t q e f = rw (e, f)
   after_go (Some r) t q e f = rw (e, f)

@@ -1,4 +1,4 @@
 -- The definitions that this crate adds to those of `metadata`. Assumes nothing.
 pub mod Domains
-pub mod Hosts
+pub mod HandsOn
 pub mod Stored

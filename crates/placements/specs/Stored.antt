@@ -9,6 +9,7 @@ use Rattle.metadata.specs.Tables.{placement_key, desired, leaders, same_placemen
 use Rattle.metadata.specs.Placements.{judge_replica, judge_leader, judge_domains, judge_kept_replicas}
 use Rattle.metadata.specs.declared.Answer.{Answer}
 use Rattle.metadata.specs.declared.Answer.TheVariants as A
+use Rattle.metadata.specs.declared.kinds.TableKind.TheVariants as K
 use Rattle.metadata.specs.declared.RaftGroupId.{RaftGroupId}
 use Rattle.metadata.specs.declared.NodeDescriptor.{NodeDescriptor}
 use Rattle.metadata.specs.declared.DesiredReplica.{DesiredReplica}
@@ -38,7 +39,7 @@ judge_epoch_after (Some q) p =
 
 -- the last check of `judge_new_placement`, in a table of count placements
 abbrev pub judge_room : Option DesiredReplicaPlacement → ℕ → Answer
-judge_room stored count = refuse (not (is_some stored) && leb tablet_room count) (A.TableFull 1 tablet_room)
+judge_room stored count = refuse (not (is_some stored) && leb tablet_room count) (A.TableFull K.Tablets tablet_room)
 
 -- `judge_new_placement`, in a group and a table of count placements
 abbrev pub judge_new_after : List NodeDescriptor → List RetiredReplicaLifetime → RaftGroupId → Option DesiredReplicaPlacement → ℕ → DesiredReplicaPlacement → Answer

@@ -7,7 +7,9 @@ ghost use Rattle.placements.specs.Stored.{stored_replicas, is_stored, judge_epoc
 ghost use Rattle.std.specs.Option.{option_map};
 ghost use Rattle.std.specs.Prelude.{◌≡◌};
 
-use metadata::{Answer, DesiredReplica, DesiredReplicaPlacement, ReplicaId, TABLET_ROOM};
+use metadata::{
+    Answer, DesiredReplica, DesiredReplicaPlacement, ReplicaId, TABLET_ROOM, TableKind,
+};
 
 // The replicas of the stored placement; none where no placement is stored.
 pub fn stored_replicas(stored: Option<&DesiredReplicaPlacement>) -> &[DesiredReplica]
@@ -20,6 +22,7 @@ pub fn stored_replicas(stored: Option<&DesiredReplicaPlacement>) -> &[DesiredRep
 }
 
 // This very placement is stored.
+// By `is_same` and no `==`, since sameness leaves out the places past a count.
 pub fn is_stored(stored: Option<&DesiredReplicaPlacement>, p: &DesiredReplicaPlacement) -> bool
     ensures { result ≡ is_stored (option_map (λ q. q.now) stored.entry) p.now }
 {
@@ -31,7 +34,7 @@ pub fn judge_room(stored: Option<&DesiredReplicaPlacement>, count: usize) -> Res
     ensures { Gives result (judge_room (option_map (λ q. q.now) stored.entry) count) }
 {
     if stored.is_none() && TABLET_ROOM <= count {
-        return Err(Answer::TableFull(1, TABLET_ROOM as u64));
+        return Err(Answer::TableFull(TableKind::Tablets, TABLET_ROOM as u64));
     }
     Ok(())
 }
@@ -67,6 +70,7 @@ fn kept_replica(k: ReplicaId, old: &[DesiredReplica]) -> Option<&DesiredReplica>
 }
 
 // A replica that is kept stays on its node, and a voter stays one.
+// The role is a byte, judged here alone: 0 is a Voter, 1 a Learner. An enum would be made only to be compared.
 fn judge_kept(r: &DesiredReplica, kept: Option<&DesiredReplica>) -> Result<(), Answer>
     ensures { Gives result (judge_kept r.now (option_map (λ o. o.now) kept.entry)) }
 {

@@ -5,14 +5,15 @@ ghost use Rattle.metadata.specs.Answers.{Gives, each};
 ghost use Rattle.metadata.specs.Model.{view_nodes, view_retirements};
 ghost use Rattle.metadata.specs.Placements.{stands_already, eligible, class_differs, judge_replica, judge_leader, hosts};
 ghost use Rattle.metadata.specs.Tables.{node_of, desired, leaders};
-ghost use Rattle.placements.specs.Hosts.{HandsOn, nodes_of};
-ghost use Rattle.std.specs.Prelude.{◌≡◌};
+ghost use Rattle.placements.specs.HandsOn.{HandsOn};
+ghost use Rattle.std.specs.Prelude.{◌≡◌, map};
 
-use crate::hosts::{Hosts, replicas_of};
+use labels::NodeList;
 use metadata::{
     Answer, DesiredReplica, DesiredReplicaPlacement, NodeDescriptor, NodeId, NodeLifecycle, Nodes,
-    OptionalLabel, PlacementPolicy, REPLICA_ROOM, RaftGroupId, ReplicaKey, Retirements,
+    OptionalLabel, PlacementPolicy, REPLICA_ROOM, RaftGroupId, Retirements,
 };
+use retirements::is_replica_retired;
 
 // The same replica stands on the same node already.
 #[tactic(auto, unfolding(metadata::specs::Placements::stands_already))]
@@ -23,7 +24,7 @@ fn stands_already(r: &DesiredReplica, old: &[DesiredReplica]) -> bool
         .any(|o| o.replica_id == r.replica_id && o.node_id == r.node_id)
 }
 
-// Active, or Draining or Decommissioning if the replica stands there already.
+// Active, or Draining or Decommissioning if the replica stands there already. The lifecycle is a row's byte, and one of no station is not eligible.
 #[tactic(auto, unfolding(metadata::specs::Placements::eligible))]
 fn eligible(lifecycle: u8, stands: bool) -> bool
     ensures { result ≡ eligible lifecycle stands }
@@ -44,7 +45,7 @@ fn class_differs(class: &OptionalLabel, n: &NodeDescriptor) -> bool
 }
 
 // 17, 26, 27 and 28, for one replica; `old` are the replicas of the stored placement. It hands on the replica's node, so that no one looks it up again.
-#[tactic(auto, unfolding(metadata::specs::Placements::judge_replica, metadata::specs::Answers::refuse, metadata::specs::Answers::and_then, metadata::specs::Tablets::is_replica_retired), using(crate::proofs::Found::node_found))]
+#[tactic(auto, unfolding(metadata::specs::Placements::judge_replica, metadata::specs::Answers::refuse, metadata::specs::Answers::and_then), using(metadata::proofs::Lookups::node_there))]
 fn judge_replica<'a>(
     nodes: &'a Nodes,
     retirements: &Retirements,
@@ -64,18 +65,14 @@ fn judge_replica<'a>(
     if class_differs(class, n) {
         return Err(Answer::PlacementStorageClassMismatch(r.node_id));
     }
-    let key = ReplicaKey {
-        raft_group_id: group,
-        replica_id: r.replica_id,
-    };
-    if retirements.contains(key) {
+    if is_replica_retired(retirements, group, r.replica_id) {
         return Err(Answer::RetiredReplicaReuse(group, r.replica_id));
     }
     Ok(n)
 }
 
 // 17 and 26, for one preferred leader: it is there, and Active.
-#[tactic(auto, unfolding(metadata::specs::Placements::judge_leader, metadata::specs::Answers::refuse, metadata::specs::Answers::and_then), using(crate::proofs::Found::node_found))]
+#[tactic(auto, unfolding(metadata::specs::Placements::judge_leader, metadata::specs::Answers::refuse, metadata::specs::Answers::and_then), using(metadata::proofs::Lookups::node_there))]
 fn judge_leader(nodes: &Nodes, k: NodeId) -> Result<(), Answer>
     ensures { Gives result (judge_leader (view_nodes nodes.now) k) }
 {
@@ -99,7 +96,7 @@ pub fn judge_leaders(nodes: &Nodes, q: &PlacementPolicy) -> Result<(), Answer>
     Ok(())
 }
 
-// The same for each replica, in turn. Places past the replicas keep the table's first row, which no one reads.
+// The same for each replica, in turn; their nodes are handed on in the order of the replicas.
 #[tactic(auto, using(crate::proofs::Hosting::hosting))]
 pub fn judge_replicas<'a>(
     nodes: &'a Nodes,
@@ -107,17 +104,14 @@ pub fn judge_replicas<'a>(
     old: &[DesiredReplica],
     group: RaftGroupId,
     p: &DesiredReplicaPlacement,
-) -> Result<Hosts<'a>, Answer>
-    ensures { HandsOn result (each (judge_replica (view_nodes nodes.now) (view_retirements retirements.now) old.now group p.now.placement_policy.required_storage_class) (desired p.now)) (λ on. nodes_of on ≡ hosts (view_nodes nodes.now) (desired p.now)) }
+) -> Result<NodeList<'a, REPLICA_ROOM>, Answer>
+    ensures { HandsOn result (each (judge_replica (view_nodes nodes.now) (view_retirements retirements.now) old.now group p.now.placement_policy.required_storage_class) (desired p.now)) (λ on. map (λ n. n.now) on ≡ hosts (view_nodes nodes.now) (desired p.now)) }
 {
-    let mut on = Hosts {
-        count: 0,
-        nodes: [&nodes.rows[0]; REPLICA_ROOM],
-    };
-    for r in replicas_of(p) {
+    let mut on = NodeList::new(&nodes.rows[0]);
+    for r in p.desired() {
         let class = &p.placement_policy.required_storage_class;
-        on.nodes[on.count] = judge_replica(nodes, retirements, old, group, class, r)?;
-        on.count += 1;
+        let n = judge_replica(nodes, retirements, old, group, class, r)?;
+        on.push(n);
     }
     Ok(on)
 }

@@ -11,7 +11,6 @@ ghost use Rattle.std.specs.Prelude.{◌≡◌};
 mod changes;
 mod copies;
 mod domains;
-mod hosts;
 
 use changes::{is_stored, judge_epoch, judge_kept_replicas, judge_room, stored_replicas};
 use copies::{judge_leaders, judge_replicas};
@@ -49,7 +48,8 @@ fn stored_placement(placements: &Placements, tablet: TabletId) -> Option<&Desire
 }
 
 // 25 for a tablet that is not there; 1 for the placement that is stored already; else the checks of a new one. Each table is searched once, and what was found handed on.
-#[tactic(auto, unfolding(metadata::specs::Answers::refuse, metadata::specs::Answers::and_then), using(crate::proofs::Found::tablet_found, crate::proofs::Looked::placed_at))]
+// It is lent the tables that it reads, one by one: so its signature says which.
+#[tactic(auto, unfolding(metadata::specs::Answers::refuse, metadata::specs::Answers::and_then), using(metadata::proofs::Lookups::tablet_there, crate::proofs::Looked::placed_at))]
 pub fn judge_placement(
     nodes: &Nodes,
     tablets: &Tablets,

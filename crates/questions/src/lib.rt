@@ -18,6 +18,7 @@ use metadata::{
 #[derive(Clone, Copy, PartialEq, Eq, Debug)]
 pub struct Unsound;
 
+// The guard of the six questions: each asks it first and goes on with `?`.
 fn ask(s: &Store) -> Result<(), Unsound>
     ensures { Tells (sound s.now) (λ _. ⊤) result }
 {
@@ -43,6 +44,7 @@ pub fn is_complete(s: &Store, k: TableId) -> Result<bool, Unsound>
     Ok(tablets::is_complete(k, &s.catalog.tables, &s.catalog.tablets))
 }
 
+// The row under an id, none where there is none. One function for each of the four tables that document 01 asks, each the guard and a call of the table's `get`.
 pub fn node(s: &Store, k: NodeId) -> Result<Option<&NodeDescriptor>, Unsound>
     ensures { Tells (sound s.now) (Looks node_key zero_node k.0 (view_nodes s.now.directory.nodes)) result }
 {

@@ -2,15 +2,14 @@
 use Prim.Native.Nat.{ℕ, zero, suc, ◌+◌, ◌-◌, ◌≤◌, ◌<◌}
 use native.Mathlib.Omega.{arith}
 use mathlib.Core.Path.{◌≡◌, refl, sym, ap, ◌∙◌}
-use mathlib.Core.Bool.{Bool, true, false, cond}
+use mathlib.Core.Bool.{true}
 use Rattle.std.proofs.Common.{◌⊎◌, inl, inr}
-use Rattle.std.proofs.lemmas.Bool.{cases_lt}
+use Rattle.std.proofs.lemmas.Bool.Decides.{nat_tests}
 use mathlib.Core.List.{List}
-use lib.Dec.{leb}
 use lib.ListN.{length}
-use borrow.Author.Tests.{le-leb, leb-true, leb-false}
-use Rattle.decode.specs.Decode.{byte_at}
+use borrow.Author.Tests.{le-leb}
 use Rattle.metadata.specs.declared.Answer.TheVariants as A
+use Rattle.metadata.specs.declared.kinds.TapeFault.TheVariants as F
 use Rattle.reading.specs.declared.Next.{Next}
 use Rattle.reading.specs.declared.Next.TheVariants as N
 use Rattle.reading.specs.Reader.{Reading, ended, stopped, then, next_at, on_next, read, read_from, lines, is_command, size_of, command_at}
@@ -29,19 +28,9 @@ pub record Whole (l : List ℕ) (at b m : ℕ) : Type 0 where
   pub next : m ≡ (at + 1) + size_of b
   pub fits : m ≤ length l
 
-whole_go : (l : List ℕ) (at b m : ℕ) (t u v : Bool) → leb (length l) at ≡ t → is_command (byte_at l at) ≡ u → leb ((at + 1) + size_of (byte_at l at)) (length l) ≡ v →
-    cond t N.End (cond u (cond v (N.Whole (byte_at l at) ((at + 1) + size_of (byte_at l at))) (N.Cut (byte_at l at))) (N.Unknown (byte_at l at))) ≡ N.Whole b m → Whole l at b m
-whole_go l at b m true u v e f g h = absurd (let z : ◌≡◌ {A = ℕ} 0 1 = cc in omega arith)
-whole_go l at b m false false v e f g h = absurd (let z : ◌≡◌ {A = ℕ} 0 1 = cc in omega arith)
-whole_go l at b m false true false e f g h = absurd (let z : ◌≡◌ {A = ℕ} 0 1 = cc in omega arith)
-whole_go l at b m false true true e f g h =
-    let p : byte_at l at ≡ b = cc in
-    let q : (at + 1) + size_of (byte_at l at) ≡ m = cc in
-    record { inside = leb-false _ _ e; known = rw p at f; next = sym q ∙ ap (λ (k : ℕ). (at + 1) + size_of k) p; fits = rw q at (leb-true ((at + 1) + size_of (byte_at l at)) (length l) g) }
-
 pub whole : (l : List ℕ) (at b m : ℕ) → next_at l at ≡ N.Whole b m → Whole l at b m
 unfolding next_at
-whole l at b m h = whole_go l at b m (leb (length l) at) (is_command (byte_at l at)) (leb ((at + 1) + size_of (byte_at l at)) (length l)) refl refl refl h
+whole l at b m h = grind (arith, nat_tests)
 
 -- what whoever reads a whole command needs to know: its byte is there, it is a command, and its operands are there
 module _ (l : List ℕ) (at b m : ℕ) (x : Next) (q : x ≡ next_at l at) (e : x ≡ N.Whole b m) where
@@ -58,7 +47,7 @@ module _ (l : List ℕ) (at b m : ℕ) (x : Next) (q : x ≡ next_at l at) (e : 
   pub whole_less : length l - m < length l - at
   whole_less = let w = whole l at b m (sym q ∙ e) in omega (arith, w.next, w.inside, w.fits)
 
--- for `using` on a function that reads a whole command
+-- for `using` on a function that reads a whole command: `count_lines` here, `run_commands` (tape_commands) and `run_chunk` (chunks) by their own rulesets
 pub ruleset wholes = (whole_inside, whole_known, whole_fits, whole_less)
 
 -- ---- any number of turns that is large enough
@@ -94,11 +83,12 @@ pub read_end : (l : List ℕ) (at : ℕ) → next_at l at ≡ N.End → read_fro
 unfolding read
 read_end l at e = read_enough (length l - at) (suc (length l - at)) l at (omega arith) (omega arith) ∙ rw e
 
-pub read_unknown : (l : List ℕ) (at b : ℕ) → next_at l at ≡ N.Unknown b → read_from l at ≡ stopped (A.BadTape 1 b)
+-- Two laws for the two ways in which a tape stops: each has its own answer.
+pub read_unknown : (l : List ℕ) (at b : ℕ) → next_at l at ≡ N.Unknown b → read_from l at ≡ stopped (A.BadTape F.Unknown b)
 unfolding read
 read_unknown l at b e = read_enough (length l - at) (suc (length l - at)) l at (omega arith) (omega arith) ∙ rw e
 
-pub read_cut : (l : List ℕ) (at b : ℕ) → next_at l at ≡ N.Cut b → read_from l at ≡ stopped (A.BadTape 2 b)
+pub read_cut : (l : List ℕ) (at b : ℕ) → next_at l at ≡ N.Cut b → read_from l at ≡ stopped (A.BadTape F.Cut b)
 unfolding read
 read_cut l at b e = read_enough (length l - at) (suc (length l - at)) l at (omega arith) (omega arith) ∙ rw e
 
@@ -132,10 +122,6 @@ pub count_none : (l : List ℕ) (at₀ at n : ℕ) (x : Next) → Counting l at�
 count_none l at₀ at n x c q e = sym (c.left ∙ rw (read_end l at (sym q ∙ e)) (omega arith))
 
 -- where the tape stops there is still a byte
-inside_go : (l : List ℕ) (at : ℕ) (x : Next) → x ≡ next_at l at → Stops x → (at < length l) ⊎ (length l ≤ at) → at < length l
-inside_go l at x q s (inl h) = h
-inside_go l at x q (inl (b, e)) (inr h) = let z : N.End ≡ N.Unknown b = next_end l at h ∙ sym q ∙ e in cc
-inside_go l at x q (inr (b, e)) (inr h) = let z : N.End ≡ N.Cut b = next_end l at h ∙ sym q ∙ e in cc
-
 pub stops_inside : (l : List ℕ) (at : ℕ) (x : Next) → x ≡ next_at l at → Stops x → at < length l
-stops_inside l at x q s = inside_go l at x q s (cases_lt at (length l))
+unfolding next_at
+stops_inside l at x q s = grind (arith, nat_tests)

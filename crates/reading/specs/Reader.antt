@@ -6,6 +6,7 @@ use Rattle.metadata.specs.Opening.{opening, refused_store}
 use Rattle.metadata.specs.Sound.{answers}
 use Rattle.metadata.specs.declared.Answer.{Answer}
 use Rattle.metadata.specs.declared.Answer.TheVariants as A
+use Rattle.metadata.specs.declared.kinds.TapeFault.TheVariants as F
 use Rattle.metadata.specs.declared.Answered.{Answered}
 use Rattle.metadata.specs.declared.Command.{Command}
 use Rattle.metadata.specs.declared.Command.TheVariants.{Naming as naming, Registering as registering, Lifecycle as lifecycle, Tablet as tablet, Placement as placement, Retirement as retirement, Picking as picking}
@@ -58,8 +59,8 @@ next_at l at =
 
 abbrev pub on_next : Next → (ℕ → ℕ → Reading) → Reading
 on_next N.End f = ended
-on_next (N.Unknown b) f = stopped (A.BadTape 1 b)
-on_next (N.Cut b) f = stopped (A.BadTape 2 b)
+on_next (N.Unknown b) f = stopped (A.BadTape F.Unknown b)
+on_next (N.Cut b) f = stopped (A.BadTape F.Cut b)
 on_next (N.Whole b m) f = f b m
 
 -- from a place on; n is at least the number of bytes left
@@ -91,7 +92,7 @@ abbrev pub body_at : List ℕ → ℕ
 body_at l = 9 + 12 * byte_at l 0
 
 abbrev pub cut_opening : Answered
-cut_opening = record { answer = A.BadTape 2 0; store = refused_store }
+cut_opening = record { answer = A.BadTape F.Cut 0; store = refused_store }
 
 -- "one cut short prints `0 40 2 0 0`; more than 16 tables is refused after nine bytes"
 unfoldable pub open_tape : List ℕ → Answered

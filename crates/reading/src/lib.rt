@@ -16,7 +16,7 @@ const HEAD: usize = 9;
 
 const TABLE: usize = 12;
 
-// What stands at a place of a tape: nothing more, an unknown byte, a command that is cut short, or a whole command with its byte and the place of the next.
+// What stands at a place of a tape, with the byte that is there, since answer 40 repeats it: nothing more, an unknown byte, a command that is cut short, or a whole command with its byte and the place of the next.
 #[derive(Clone, Copy)]
 pub enum Next {
     End,
@@ -25,6 +25,7 @@ pub enum Next {
     Whole(u8, usize),
 }
 
+// A command's byte stays a byte until its row is read: `Command` has no value without one.
 pub fn is_command(b: u8) -> bool
     ensures { result ≡ is_command b }
 {
@@ -82,10 +83,12 @@ pub fn next_at(tape: &[u8], at: usize) -> Next
 }
 
 // How many lines the commands from a place on print.
+// The walk over a tape stands here, in `tape_commands` and in `chunks`: what is done at a command differs, and one walk over closures would say of each turn what the loop is.
 #[tactic(auto, using(crate::proofs::Reading::wholes, crate::proofs::Reading::stops_inside, crate::proofs::Reading::count_start))]
 pub fn count_lines(tape: &[u8], at: usize) -> usize
     ensures { result ≡ lines (read_from tape.now at) }
 {
+    // The lines so far. The loop goes over places of the tape and no list, so `enumerate` has nothing to number.
     let mut n = 0;
     let mut place = at;
     loop {

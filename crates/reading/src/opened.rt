@@ -4,13 +4,13 @@ ghost use Rattle.std.specs.Prelude.{◌≡◌};
 
 use crate::{HEAD, body_at};
 use decode::{number8, tables_at};
-use metadata::{Answer, Answered, TABLE_ROOM};
+use metadata::{Answer, Answered, TABLE_ROOM, TapeFault};
 
 fn cut_opening() -> Answered
     ensures { result ≡ cut_opening }
 {
     Answered {
-        answer: Answer::BadTape(2, 0),
+        answer: Answer::BadTape(TapeFault::Cut, 0),
         ..opening::refused_opening()
     }
 }

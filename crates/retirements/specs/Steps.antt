@@ -5,6 +5,7 @@ use Rattle.metadata.specs.Answers.{◌⊳◌, refuse}
 use Rattle.metadata.specs.Tables.{same_retirement}
 use Rattle.metadata.specs.declared.Answer.{Answer}
 use Rattle.metadata.specs.declared.Answer.TheVariants as A
+use Rattle.metadata.specs.declared.kinds.TableKind.TheVariants as K
 use Rattle.metadata.specs.declared.TabletId.{TabletId}
 use Rattle.metadata.specs.declared.RetiredReplicaLifetime.{RetiredReplicaLifetime}
 
@@ -16,4 +17,4 @@ judge_known_row known x = cond (same_retirement known x) A.AlreadyApplied (A.Ret
 abbrev pub judge_new_row : TabletId → ℕ → List RetiredReplicaLifetime → RetiredReplicaLifetime → Answer
 judge_new_row tablet stored retirements x =
     refuse (not (eqb x.desired_configuration_epoch stored)) (A.PlacementEpochMismatch tablet stored x.desired_configuration_epoch)
-    ⊳ refuse (leb retirement_room (length retirements)) (A.TableFull 2 retirement_room)
+    ⊳ refuse (leb retirement_room (length retirements)) (A.TableFull K.Retirements retirement_room)

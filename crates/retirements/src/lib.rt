@@ -12,11 +12,12 @@ ghost use Rattle.retirements.specs.Steps.{judge_known_row, judge_new_row};
 
 use metadata::{
     Answer, DesiredReplica, DesiredReplicaPlacement, Placements, RETIREMENT_ROOM, RaftGroupId,
-    ReplicaId, ReplicaKey, RetiredReplicaLifetime, Retirements, TabletDescriptor, TabletId,
-    Tablets,
+    ReplicaId, ReplicaKey, RetiredReplicaLifetime, Retirements, TableKind, TabletDescriptor,
+    TabletId, Tablets,
 };
 
 // The first tablet, by id, of the group.
+// Rows rise by tablet id and not by group, so the search goes over all.
 pub fn tablet_of_group(tablets: &Tablets, group: RaftGroupId) -> Option<&TabletDescriptor>
     ensures { MatchOption result (has group_key group.0 (view_tablets tablets.now) ≡ false) (λ t. (has group_key group.0 (view_tablets tablets.now) ≡ true) × (tablet_of_group group.0 (view_tablets tablets.now) ≡ t.now)) }
 {
@@ -77,14 +78,15 @@ fn judge_new_retirement(
     if received != stored {
         return Err(Answer::PlacementEpochMismatch(tablet, stored, received));
     }
-    if RETIREMENT_ROOM <= retirements.used().len() {
-        return Err(Answer::TableFull(2, RETIREMENT_ROOM as u64));
+    if retirements.is_full() {
+        return Err(Answer::TableFull(TableKind::Retirements, RETIREMENT_ROOM as u64));
     }
     Ok(())
 }
 
 // The checks of a retirement, from top to bottom; each row is looked up once.
-#[tactic(auto, unfolding(metadata::specs::Tablets::judge_retirement, metadata::specs::Tablets::judge_known_retirement, metadata::specs::Tablets::judge_new_retirement, metadata::specs::Tablets::is_replica_retired, metadata::specs::Answers::refuse, metadata::specs::Answers::and_then), using(crate::proofs::Lookups::placement_rules))]
+// It is lent the tables that it reads, one by one: so its signature says which.
+#[tactic(auto, unfolding(metadata::specs::Tablets::judge_retirement, metadata::specs::Tablets::judge_known_retirement, metadata::specs::Tablets::judge_new_retirement, metadata::specs::Tablets::is_replica_retired, metadata::specs::Tablets::desires, metadata::specs::Answers::refuse, metadata::specs::Answers::and_then), using(metadata::proofs::Lookups::placement_there, laws::proofs::KeyedLaws::row_absent))]
 pub fn judge_retirement(
     tablets: &Tablets,
     placements: &Placements,

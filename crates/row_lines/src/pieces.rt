@@ -1,29 +1,11 @@
 // The pieces of a line: numbers and texts, each with a space before it.
-ghost use Rattle.std.specs.Prelude.{◌≡◌, ◌+◌, ◌*◌, ◌≤◌, ◌<◌, ◌++◌, length, take};
+ghost use Rattle.std.specs.Prelude.{◌≡◌, ◌+◌, ◌*◌, ◌≤◌, ◌<◌, ◌++◌};
 ghost use Rattle.arrayvec.specs.ArrayString.{array_string_len};
-ghost use Rattle.row_lines.specs.Pieces.{number, three_numbers, hex_digit, hex_pair, text_field, optional_field};
+ghost use Rattle.row_lines.specs.Pieces.{three_numbers, hex_digit, hex_pair, text_field, optional_field};
 
 use crate::{PAGE_ROOM, Page, Printed, put_each};
-use lines::put_number;
+use lines::put_field;
 use text::{Optional, Text};
-
-// The places in use: as many as the count says, and all where it says more.
-pub fn in_use<T, const M: usize>(places: &[T; M], count: usize) -> &[T]
-    ensures value { result.now ≡ take count places.now }
-    ensures within { length result.now ≤ M }
-{
-    &places[..count.min(M)]
-}
-
-// A space and a number.
-pub(crate) fn put_field(out: &mut Page, n: u64)
-    requires { array_string_len out.old + 21 ≤ PAGE_ROOM }
-    ensures text { out.new.bytes ≡ out.old.bytes ++ number n }
-    ensures short { array_string_len out.new ≤ array_string_len out.old + 21 }
-{
-    out.push(' ');
-    put_number(out, n);
-}
 
 pub(crate) fn put_three(out: &mut Page, a: u64, b: u64, c: u64)
     requires { array_string_len out.old + 63 ≤ PAGE_ROOM }
@@ -67,7 +49,7 @@ impl<const W: usize> Printed for Text<W> {
     #[tactic(auto, unfolding(crate::specs::Pieces::text_field))]
     fn put(&self, out: &mut Page) {
         out.push_str(" =");
-        put_each(out, in_use(&self.bytes, self.len as usize));
+        put_each(out, self.text());
     }
 }
 

@@ -1,11 +1,11 @@
 // The line of a placement.
 ghost use Rattle.std.specs.Prelude.{◌≡◌, ◌+◌, ◌≤◌, ◌++◌};
 ghost use Rattle.arrayvec.specs.ArrayString.{array_string_len};
-ghost use Rattle.row_lines.specs.PlacementLines.{replica_text, node_number, minima_text, policy_text, replicas_text, leaders_text, placement_line};
+ghost use Rattle.row_lines.specs.PlacementLines.{replica_text, node_number, minima_text, policy_text, replicas_text, placement_line};
 
-use crate::pieces::{in_use, put_field, put_three};
+use crate::pieces::put_three;
 use crate::{PAGE_ROOM, Page, Printed, put_each};
-use lines::put_number;
+use lines::{put_field, put_number};
 use metadata::{DesiredReplica, DesiredReplicaPlacement, NodeId, PlacementPolicy};
 
 impl Printed for NodeId {
@@ -43,7 +43,7 @@ fn put_replicas(out: &mut Page, p: &DesiredReplicaPlacement)
     put_field(out, p.tablet_id.0);
     put_field(out, p.configuration_epoch);
     out.push_str(" replicas");
-    put_each(out, in_use(&p.replicas, p.replica_count as usize));
+    put_each(out, p.desired());
 }
 
 #[tactic(auto, unfolding(crate::specs::PlacementLines::minima_text))]
@@ -76,29 +76,17 @@ pub(crate) fn put_policy(out: &mut Page, q: &PlacementPolicy)
     out.push_str(" leaders");
 }
 
-#[tactic(auto, unfolding(crate::specs::PlacementLines::leaders_text))]
-fn put_leaders(out: &mut Page, q: &PlacementPolicy)
-    requires { array_string_len out.old + 147 ≤ PAGE_ROOM }
-    ensures text { out.new.bytes ≡ out.old.bytes ++ leaders_text q.now }
-    ensures short { array_string_len out.new ≤ array_string_len out.old + 147 }
-{
-    put_each(
-        out,
-        in_use(&q.preferred_leader_nodes, q.preferred_leader_count as usize),
-    );
-}
-
 // The longest line.
 impl Printed for DesiredReplicaPlacement {
     ghost room = { 811 };
 
     ghost text = { placement_line };
 
-    #[tactic(auto, unfolding(crate::specs::PlacementLines::placement_line))]
+    #[tactic(auto, unfolding(crate::specs::PlacementLines::placement_line, crate::specs::PlacementLines::leaders_text))]
     fn put(&self, out: &mut Page) {
         put_replicas(out, self);
         put_policy(out, &self.placement_policy);
-        put_leaders(out, &self.placement_policy);
+        put_each(out, self.placement_policy.leaders());
         out.push('\n');
     }
 }

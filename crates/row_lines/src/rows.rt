@@ -3,10 +3,12 @@ ghost use Rattle.std.specs.Prelude.{◌≡◌, ◌+◌, ◌≤◌, ◌++◌};
 ghost use Rattle.arrayvec.specs.ArrayString.{array_string_len};
 ghost use Rattle.row_lines.specs.RowLines.{endpoints, node_labels, node_line, completeness, table_line, partition_text, tablet_line, retired_line};
 
-use crate::pieces::{put_field, put_three};
+use crate::pieces::put_three;
 use crate::{PAGE_ROOM, Page, Printed};
+use lines::put_field;
 use metadata::{NodeDescriptor, PartitionSpec, RetiredReplicaLifetime, TableRow, TabletDescriptor};
 
+// The endpoints and the labels of a node: four calls each, alike in shape only. The fields have other types and rooms, so no loop over a list puts both.
 #[tactic(auto, unfolding(crate::specs::RowLines::endpoints))]
 fn put_endpoints(out: &mut Page, n: &NodeDescriptor)
     requires { array_string_len out.old + 392 ≤ PAGE_ROOM }
@@ -73,6 +75,7 @@ pub fn put_table(out: &mut Page, t: &TableRow, complete: bool)
     out.push('\n');
 }
 
+// The kind is a byte, and any but 0 is printed as a range, as the definition has it: an enum of the two kinds would have no value for the others.
 impl Printed for PartitionSpec {
     ghost room = { 138 };
 

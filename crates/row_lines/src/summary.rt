@@ -1,12 +1,14 @@
 // The lines that are no row's: the name, the marks, the next replica and the first choice.
-ghost use Rattle.std.specs.Prelude.{◌≡◌, ◌+◌, ◌≤◌, ◌++◌};
+ghost use Rattle.std.specs.Prelude.{◌≡◌, ◌+◌, ◌≤◌, ◌++◌, length, take};
+ghost use Rattle.metadata.specs.Rooms.{initial_replication_factor};
 ghost use Rattle.arrayvec.specs.ArrayString.{array_string_len};
-ghost use Rattle.row_lines.specs.StoreLines.{name_line, marks_line, next_text, next_line, picked_text, pick_line};
+ghost use Rattle.row_lines.specs.StoreLines.{name_line, marks_line, next_text, next_line, pick_line};
 
-use crate::pieces::{in_use, put_field, put_three};
+use crate::pieces::put_three;
 use crate::placements::put_policy;
 use crate::{PAGE_ROOM, Page, Printed, put_each};
-use metadata::{InitialPlacement, MetadataAllocatorState, OptionalName};
+use lines::put_field;
+use metadata::{InitialPlacement, MetadataAllocatorState, NodeId, OptionalName};
 
 // The cluster's name.
 #[tactic(auto, unfolding(crate::specs::StoreLines::name_line))]
@@ -56,17 +58,17 @@ pub fn put_next(out: &mut Page, m: &MetadataAllocatorState)
     out.push('\n');
 }
 
-#[tactic(auto, unfolding(crate::specs::StoreLines::picked_text))]
-fn put_picked(out: &mut Page, p: &InitialPlacement)
-    requires { array_string_len out.old + 63 ≤ PAGE_ROOM }
-    ensures text { out.new.bytes ≡ out.old.bytes ++ picked_text p.now }
-    ensures short { array_string_len out.new ≤ array_string_len out.old + 63 }
+// The nodes that are picked: as many as the count says, and all where it says more.
+fn picked(p: &InitialPlacement) -> &[NodeId]
+    ensures value { result.now ≡ take p.now.node_count p.now.nodes }
+    ensures within { length result.now ≤ initial_replication_factor }
 {
-    put_each(out, in_use(&p.nodes, p.node_count as usize));
+    let nodes = &p.nodes[..];
+    &nodes[..(p.node_count as usize).min(nodes.len())]
 }
 
 // The first choice.
-#[tactic(auto, unfolding(crate::specs::StoreLines::pick_line))]
+#[tactic(auto, unfolding(crate::specs::StoreLines::pick_line, crate::specs::StoreLines::picked_text))]
 pub fn put_pick(out: &mut Page, p: &InitialPlacement)
     requires { array_string_len out.old + 251 ≤ PAGE_ROOM }
     ensures text { out.new.bytes ≡ out.old.bytes ++ pick_line p.now }
@@ -77,7 +79,7 @@ pub fn put_pick(out: &mut Page, p: &InitialPlacement)
         out.push_str(" -\n");
         return;
     }
-    put_picked(out, p);
+    put_each(out, picked(p));
     put_policy(out, &p.placement_policy);
     put_field(out, u64::from(p.placement_policy.preferred_leader_count));
     out.push('\n');

@@ -1,14 +1,14 @@
 #![tactic(auto, unfolding(laws::specs::Tests::all_of))]
 
 // Reason 12: whether a store keeps to its room, its rows rise, its padding is zero and its marks are sound.
-ghost use Rattle.laws.specs.Lists.{every, none_twice};
-ghost use Rattle.metadata.specs.Commands.{same_host};
+ghost use Rattle.laws.specs.Lists.{every};
 ghost use Rattle.metadata.specs.Model.{view_nodes, view_tables, view_tablets, view_placements, view_catalog};
 ghost use Rattle.metadata.specs.Sound.{sound_node, sound_tablet, sound_policy, sound_placement, replicas_below, sound_marks, sound_directory, sound_catalog, sound};
-ghost use Rattle.metadata.specs.Tables.{desired, endpoints, is_zero_id, is_zero_replica};
+ghost use Rattle.metadata.specs.Tables.{endpoints};
 ghost use Rattle.metadata.specs.Texts.{name_fits};
-ghost use Rattle.std.specs.Prelude.{◌≡◌, leb, drop};
+ghost use Rattle.std.specs.Prelude.{◌≡◌, leb};
 
+use admission::no_host_twice;
 use metadata::{
     Catalog, DesiredReplicaPlacement, Directory, NodeDescriptor, PlacementPolicy, REPLICA_ROOM,
     Store, TabletDescriptor,
@@ -36,32 +36,13 @@ pub fn sound_tablet(t: &TabletDescriptor) -> bool
     t.partition.start_key.fits() && t.partition.end_key.fits()
 }
 
-fn leaders_clear(q: &PlacementPolicy) -> bool
-    ensures { result ≡ every is_zero_id (drop q.now.preferred_leader_count q.now.preferred_leader_nodes) }
-{
-    q.unused_leaders().iter().all(|k| k.is_zero())
-}
-
 #[tactic(auto, unfolding(laws::specs::Tests::all_of, metadata::specs::Sound::sound_policy))]
 pub fn sound_policy(q: &PlacementPolicy) -> bool
     ensures { result ≡ sound_policy q.now }
 {
     (q.preferred_leader_count as usize) <= REPLICA_ROOM
-        && leaders_clear(q)
+        && q.is_padded()
         && q.required_storage_class.fits()
-}
-
-fn replicas_clear(p: &DesiredReplicaPlacement) -> bool
-    ensures { result ≡ every is_zero_replica (drop p.now.replica_count p.now.replicas) }
-{
-    p.unused_replicas().iter().all(|r| r.is_zero())
-}
-
-// No host twice among the copies.
-fn hosts_differ(p: &DesiredReplicaPlacement) -> bool
-    ensures { result ≡ none_twice same_host (desired p.now) }
-{
-    lists::none_twice(p.desired(), |a, b| a.node_id == b.node_id)
 }
 
 #[tactic(auto, unfolding(laws::specs::Tests::all_of, metadata::specs::Sound::sound_placement))]
@@ -69,13 +50,14 @@ pub fn sound_placement(p: &DesiredReplicaPlacement) -> bool
     ensures { result ≡ sound_placement p.now }
 {
     (p.replica_count as usize) <= REPLICA_ROOM
-        && replicas_clear(p)
-        && hosts_differ(p)
+        && p.is_padded()
+        && no_host_twice(p.desired())
         && sound_policy(&p.placement_policy)
 }
 
 // ---- the marks: no id lies above its mark
 
+// One chain each: a generic one would be told the table, the id and the mark, and be no shorter.
 fn tables_below(c: &Catalog) -> bool
     ensures { result ≡ every (λ t. leb t.table_id.0 c.now.marks.max_table_id) (view_tables c.now.tables) }
 {

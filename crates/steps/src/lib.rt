@@ -52,7 +52,7 @@ fn decided(s: &Store, c: &Command) -> Result<(), Answer>
     judge(s, c)
 }
 
-// What a command is answered.
+// What a command is answered: an `Answer` and no `Result`, since Applied is an answer like the others here.
 pub fn decide(s: &Store, c: &Command) -> Answer
     ensures { result ≡ decide (view s.now) c.now }
 {
@@ -110,6 +110,7 @@ pub fn change(s: &mut Store, c: &Command)
 }
 
 // Inner: who holds a store shows that it is sound. One command: decided, then carried out where the answer is Applied.
+// That the store is sound stands in `requires`, here and in the crates that run tapes: a type that owns a sound store could not be made of one that a caller of `store` lends without a copy of it.
 #[tactic(auto, using(crate::proofs::Changing::changed_is))]
 pub fn step(s: &mut Store, c: &Command) -> Answer
     requires { sound s.old ≡ true }

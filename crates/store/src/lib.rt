@@ -23,6 +23,7 @@ pub fn apply(s: &mut Store, c: &Command) -> Answer
     steps::step(s, c)
 }
 
+// Under the source's names, each is `apply` of one command. Their result is the answer and no `Result`: of document 01's answers several are no refusals.
 pub fn apply_create_tablet(s: &mut Store, t: &TabletDescriptor) -> Answer
     ensures { ◌≡◌ {A = Answered} (record { answer = result; store = s.new }) (entry s.old (tablet t.now)) }
 {

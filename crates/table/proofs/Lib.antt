@@ -1,3 +1,3 @@
 -- The laws that belong to no one function. Assumes nothing.
-pub mod Places
+pub mod Kept
 pub mod Sound

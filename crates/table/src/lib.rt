@@ -4,7 +4,7 @@
 ghost use Rattle.laws.specs.Keyed.{Keyed, before, has, row};
 ghost use Rattle.laws.specs.Lists.{every};
 ghost use Rattle.laws.specs.Rows.{find_index, rising};
-ghost use Rattle.std.specs.Prelude.{◌≡◌, Bool, false, true, [], ◌<◌, cond, leb, ltb, drop, IfSome, MatchOption, Ok, Err};
+ghost use Rattle.std.specs.Prelude.{◌≡◌, Bool, false, true, [], ◌<◌, ◌≤◌, length, cond, leb, ltb, drop, IfSome, MatchOption, Ok, Err};
 ghost use Rattle.table.specs.Tables.{under, view, pack, with_row, set_row, put_row, sound_table};
 ghost use Rattle.table.specs.declared.Full.{Full};
 
@@ -40,7 +40,7 @@ pub trait Row: Copy {
 #[derive(Clone, Copy, PartialEq, Eq, Debug)]
 pub struct Full;
 
-// The first count rows are in use.
+// The first count rows are in use. There is no heap, so they stand in an array with their count; who reads gets a slice.
 #[derive(Clone, Copy)]
 pub struct Table<R, const ROOM: usize> {
     pub count: usize,
@@ -60,7 +60,8 @@ impl<R: Row, const ROOM: usize> Table<R, ROOM> {
 
     // The rows in use; a count above the room makes all of them used.
     pub fn used(&self) -> &[R]
-        ensures { result.now ≡ view self.now }
+        ensures rows { result.now ≡ view self.now }
+        ensures within { length result.now ≤ ROOM }
     {
         &self.rows[..self.count.min(ROOM)]
     }
@@ -72,13 +73,14 @@ impl<R: Row, const ROOM: usize> Table<R, ROOM> {
         &rows[self.count.min(ROOM)..]
     }
 
+    // A count above the room is full too: the fields are open, so any count may stand there. `FixedList::is_full` has none to judge.
     pub fn is_full(&self) -> bool
-        ensures { result ≡ leb ROOM self.now.count }
+        ensures { result ≡ leb ROOM (length (view self.now)) }
     {
-        ROOM <= self.count
+        ROOM <= self.used().len()
     }
 
-    // Where the first row under this key stands.
+    // Where the first row under this key stands. It is looked for from the first row on, and not by halves, since this holds of any table, its rows rising or not.
     pub fn find(&self, key: R::Key) -> Option<usize>
         ensures found { result ≡ find_index (under R.keyed (R.key_of key)) (view self.now) }
         ensures within { IfSome result (λ i. i < ROOM) }

@@ -1,5 +1,4 @@
 -- The laws that belong to no one function. Assumes nothing.
 pub mod Counted
-pub mod Lookups
 pub mod Packed
 pub mod Refused

@@ -10,13 +10,14 @@ ghost use Rattle.metadata.specs.Tables.{group_key, table_of};
 ghost use Rattle.metadata.specs.Tablets.{is_hash, is_range, in_table, holds_bucket, partitions_overlap, overlap_at, judge_hash, judge_range, judge_new_tablet, judge_tablet, is_complete};
 
 use metadata::{
-    Answer, PartitionSpec, RaftGroupId, TABLET_ROOM, TableId, TableRow, Tables, TabletDescriptor,
-    Tablets,
+    Answer, PartitionSpec, RaftGroupId, TABLET_ROOM, TableId, TableKind, TableRow, Tables,
+    TabletDescriptor, Tablets,
 };
 use table::Row;
 use text::ranges_overlap;
 
-// The kind is a byte: 0 is Hash, 1 is Range, and a row that no command gives may hold another, which is neither.
+// The kind is a byte, since a command may bring any: 0 is Hash, 1 is Range, and a row that no command gives may hold another, which is neither.
+// Both are the definitions' names for one comparison.
 fn is_hash(t: &TabletDescriptor) -> bool
     ensures { result ≡ is_hash t.now }
 {
@@ -56,7 +57,7 @@ pub fn partitions_overlap(a: &PartitionSpec, b: &PartitionSpec) -> bool
 }
 
 // The table's row; the row of zeros where there is none.
-#[tactic(auto, using(table::proofs::Places::row_absent))]
+#[tactic(auto, using(laws::proofs::KeyedLaws::row_absent))]
 pub fn table_of(id: TableId, tables: &Tables) -> TableRow
     ensures { result ≡ table_of id.0 (view_tables tables.now) }
 {
@@ -81,7 +82,7 @@ fn bucket_held(k: TableId, bucket: u32, tablets: &Tablets) -> bool
     tablets.used().iter().any(|t| holds_bucket(k, bucket, t))
 }
 
-// A tablet has the group.
+// A tablet has the group. Rows rise by tablet id and not by group, so the search goes over all.
 fn group_held(group: RaftGroupId, tablets: &Tablets) -> bool
     ensures { result ≡ has group_key group.0 (view_tablets tablets.now) }
 {
@@ -160,14 +161,15 @@ pub fn judge_new_tablet(
         return Err(Answer::UnknownTable(t.table_id));
     };
     judge_kind(tables, tablets, t)?;
-    if TABLET_ROOM <= tablets.used().len() {
-        return Err(Answer::TableFull(1, TABLET_ROOM as u64));
+    if tablets.is_full() {
+        return Err(Answer::TableFull(TableKind::Tablets, TABLET_ROOM as u64));
     }
     Ok(())
 }
 
 // The checks of a tablet, from top to bottom.
-#[tactic(auto, unfolding(metadata::specs::Tablets::judge_tablet), using(crate::proofs::Lookups::tablet_is))]
+// It is lent the tables that it reads, one by one: so its signature says which.
+#[tactic(auto, unfolding(metadata::specs::Tablets::judge_tablet), using(metadata::proofs::Lookups::tablet_there))]
 pub fn judge_tablet(tables: &Tables, tablets: &Tablets, t: &TabletDescriptor) -> Result<(), Answer>
     ensures { Gives result (judge_tablet (view_tables tables.now) (view_tablets tablets.now) t.now) }
 {

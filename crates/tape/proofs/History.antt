@@ -1,21 +1,18 @@
 -- Demand 3 of a tape: what `history` says, of the commands that a tape holds. Assumes nothing.
-use Prim.Native.Nat.{ℕ, ◌*◌}
-use mathlib.Core.Path.{◌≡◌, refl, sym, subst, ◌∙◌}
-use mathlib.Core.Bool.{Bool, true, false, cond}
+use Prim.Native.Nat.{ℕ}
+use native.Mathlib.Omega.{arith}
+use mathlib.Core.Path.{◌≡◌, sym, subst}
+use mathlib.Core.Bool.{true}
 use mathlib.Core.List.{List}
-use lib.Dec.{leb}
-use lib.ListN.{length}
-use Rattle.laws.proofs.ListLaws.{never}
 use Rattle.metadata.specs.Answers.{is_applied}
 use Rattle.metadata.specs.Sound.{run, answers}
 use Rattle.metadata.specs.History.{begun}
 use Rattle.metadata.specs.Claims.{Claims}
 use Rattle.metadata.proofs.Theorem.{history}
 use Rattle.metadata.specs.declared.Answered.{Answered}
-use Rattle.metadata.specs.declared.Store.{Store}
 use Rattle.tape.specs.declared.Ran.{Ran}
 use Rattle.reading.proofs.Accepted.{accepted}
-use Rattle.tape.specs.Tape.{outcome, final_store, ran, TapeClaims}
+use Rattle.tape.specs.Tape.{final_store, ran, TapeClaims}
 use Rattle.reading.specs.Reader.{read_from, tables_of, group_of, body_at, open_tape}
 
 -- of every tape whose opening is accepted: the final store is what the history says of its commands and their answers
@@ -28,13 +25,10 @@ tape_history l e =
     (accepted l e)
     (history (tables_of l) (group_of l) (read_from l (body_at l)).commands (subst (λ (o : Answered). is_applied o.answer ≡ true) (sym (accepted l e)) e)))
 
-ran_go : (l : List ℕ) (t b : Bool) (n : ℕ) (s : Store) → b ≡ is_applied (open_tape l).answer →
-    TapeClaims l (cond t (record { opened = b; short = false; lines = n; store = final_store l }) (record { opened = b; short = true; lines = n; store = s }))
-ran_go l true b n s q o e = tape_history l (sym q ∙ o)
-ran_go l false b n s q o e = absurd (never true refl e)
-
 -- of every run of a tape
 pub run_history : (l : List ℕ) (room : ℕ) (r : Ran) → r ≡ ran l room → TapeClaims l r
 unfolding ran
-run_history l room r e =
-    subst (TapeClaims l) (sym e) (ran_go l (leb (4 * length (outcome l)) room) (is_applied (open_tape l).answer) (length (outcome l)) (open_tape l).store refl)
+run_history l room r e opened long =
+    let accepted : is_applied (open_tape l).answer ≡ true = grind arith in
+    let left : r.store ≡ final_store l = grind arith in
+    rw left (tape_history l accepted)

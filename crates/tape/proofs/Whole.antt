@@ -4,19 +4,19 @@ use native.Mathlib.Omega.{arith}
 use native.Mathlib.Nat.{div-add-mod', mod-lt}
 use mathlib.Core.Path.{◌≡◌, sym, ap, ap₂, ◌∙◌}
 use mathlib.Core.Bool.{Bool, true, false}
-use mathlib.Core.List.{List, [], ◌∷◌, ◌++◌, append-nil}
+use mathlib.Core.List.{List, ◌++◌}
 use lib.ListN.{length, drop}
-use borrow.Author.Tests.{le-leb, lt-leb}
-use Rattle.metadata.specs.Answers.{reported, is_applied}
+use borrow.Author.Tests.{le-leb, lt-leb, le-ltb}
+use lib.Dec.{ltb}
+use Rattle.metadata.specs.Answers.{is_applied}
 use Rattle.metadata.specs.Sound.{run}
 use Rattle.metadata.specs.declared.Answered.{Answered}
 use Rattle.metadata.specs.declared.Store.{Store}
 use Rattle.tape.specs.declared.Ran.{Ran}
 use Rattle.tape.specs.Tape.{outcome, final_store, ran, ran_out}
 use Rattle.tape_commands.specs.Commands.{Done}
-use Rattle.answer_numbers.specs.Numbers.{written, numbers_of, numbers}
+use Rattle.answer_numbers.specs.Numbers.{numbers}
 use Rattle.reading.specs.Reader.{read_from, lines, tape_answers, open_tape, body_at}
-use borrow.Author.Rules.{rules}
 use Rattle.reading.proofs.Accepted.{applied, opened_is_sound}
 use Rattle.tape_commands.proofs.Running.{lines-length}
 
@@ -29,9 +29,6 @@ quarter_fits : (len n : ℕ) → n ≤ len / 4 → 4 * n ≤ len
 quarter_fits len n h = omega (arith, div-add-mod' len 4)
 
 module _ (l : List ℕ) (o : Answered) (b : Bool) (q : o ≡ open_tape l) (p : b ≡ is_applied o.answer) where
-  refused : b ≡ false → is_applied (open_tape l).answer ≡ false
-  refused e = sym (ap (λ (x : Answered). is_applied x.answer) q) ∙ sym p ∙ e
-
   module _ (at n : ℕ) (out : List ℕ) (a : at ≡ body_at l) (m : n ≡ lines (read_from l at)) where
     pub answers_fit : n ≤ length out / 4 → 4 * lines (read_from l at) ≤ length out
     answers_fit h = omega (arith, quarter_fits (length out) n h)
@@ -53,13 +50,13 @@ module _ (l : List ℕ) (o : Answered) (b : Bool) (q : o ≡ open_tape l) (p : b
         rw (lt-leb (4 * length (outcome l)) (length out) f)
 
     module _ (s : Store) (new : List ℕ) (d : Done l o.store at out s new) where
-      pub whole_run : b ≡ true → n ≤ length out / 4 → ◌≡◌ {A = Ran} (record { opened = true; short = false; lines = n; store = s }) (ran l (length out))
+      pub whole_run : b ≡ true → n ≤ length out / 4 → ◌≡◌ {A = Ran} (record { opened = true; short = ltb (length out / 4) n; lines = n; store = s }) (ran l (length out))
       unfolding ran final_store
       whole_run e h =
           let f : 4 * length (outcome l) ≤ length out = omega (arith, line_count e, quarter_fits (length out) n h) in
           let w : s ≡ run (open_tape l).store (read_from l (body_at l)).commands =
           d.store ∙ ap₂ (λ (x : Answered) (k : ℕ). run x.store (read_from l k).commands) q a in
-          rw (le-leb (4 * length (outcome l)) (length out) f, applied l o b q p e, line_count e) (ap (λ (x : Store). record { opened = true; short = false; lines = n; store = x }) w)
+          rw (le-ltb (length out / 4) n h, le-leb (4 * length (outcome l)) (length out) f, applied l o b q p e, line_count e) (ap (λ (x : Store). record { opened = true; short = false; lines = n; store = x }) w)
 
       pub whole_out : b ≡ true → n ≤ length out / 4 → new ≡ ran_out l out
       unfolding ran_out outcome
@@ -70,35 +67,5 @@ module _ (l : List ℕ) (o : Answered) (b : Bool) (q : o ≡ open_tape l) (p : b
           ∙ ap₂ (λ (x : Answered) (k : ℕ). numbers (tape_answers x.store (read_from l k)) ++ drop (4 * length (tape_answers x.store (read_from l k))) out) q a in
           rw (le-leb (4 * length (outcome l)) (length out) f) (w ∙ sym (rw (applied l o b q p e)))
 
-  module _ (out : List ℕ) where
-    one_line : b ≡ false → outcome l ≡ o.answer ∷ []
-    unfolding outcome
-    one_line e = rw (refused e, q)
-
-    pub short_refusal : b ≡ false → length out < 4 → ◌≡◌ {A = Ran} (record { opened = false; short = true; lines = 1; store = o.store }) (ran l (length out))
-    unfolding ran
-    short_refusal e h =
-        let f : length out < 4 * length (outcome l) = omega (arith, ap length (one_line e)) in
-        rw (lt-leb (4 * length (outcome l)) (length out) f, refused e, one_line e, q)
-
-    pub short_refusal_out : b ≡ false → length out < 4 → out ≡ ran_out l out
-    unfolding ran_out
-    short_refusal_out e h =
-        let f : length out < 4 * length (outcome l) = omega (arith, ap length (one_line e)) in
-        rw (lt-leb (4 * length (outcome l)) (length out) f)
-
-    pub refusal_run : b ≡ false → 4 ≤ length out → ◌≡◌ {A = Ran} (record { opened = false; short = false; lines = 1; store = o.store }) (ran l (length out))
-    unfolding ran final_store
-    refusal_run e h =
-        let f : 4 * length (outcome l) ≤ length out = omega (arith, ap length (one_line e)) in
-        rw (le-leb (4 * length (outcome l)) (length out) f, refused e, one_line e, q)
-
-    pub refusal_out : (new : List ℕ) → b ≡ false → 4 ≤ length out → new ≡ written out 0 (reported o.answer) → new ≡ ran_out l out
-    unfolding ran_out numbers
-    refusal_out new e h w =
-        let f : 4 * length (outcome l) ≤ length out = omega (arith, ap length (one_line e)) in
-        rw (le-leb (4 * length (outcome l)) (length out) f, one_line e) (w ∙ ap (λ (x : List ℕ). x ++ drop 4 out) (sym (append-nil (numbers_of (reported o.answer)))))
-
-pub ruleset runs = (answers_fit, short-run, short_out, whole_run, whole_out, opened_is_sound, rules)
-
-pub ruleset refusals = (short_refusal, short_refusal_out, refusal_run, refusal_out, rules)
+-- for `using` on `run_whole`: what it asks of the commands' run, and a list that is too short; of a whole run each clause has its law
+pub ruleset runs = (answers_fit, short-run, short_out, opened_is_sound)

@@ -22,7 +22,8 @@ pub struct Ran {
 }
 
 // A refused opening is the one answer.
-#[tactic(auto, using(crate::proofs::Whole::refusals))]
+// The contract of the run, `ran` and `ran_out`, stands here for a refused opening, at `run_whole` for any tape, and at `run`, which adds the history.
+#[tactic(auto, unfolding(crate::specs::Tape::outcome, crate::specs::Tape::final_store, crate::specs::Tape::ran, crate::specs::Tape::ran_out, answer_numbers::specs::Numbers::numbers))]
 fn run_refused(tape: &[u8], opening: Answered, out: &mut [u64]) -> Ran
     requires { (opening ≡ open_tape tape.now) × (is_applied opening.answer ≡ false) }
     ensures ran { result ≡ ran tape.now (length out.old) }
@@ -66,7 +67,6 @@ fn run_whole(tape: &[u8], out: &mut [u64]) -> Ran
 }
 
 // The same, with demand 3: where the opening is accepted and the list is long enough, the store is what the history says of the tape's commands and their answers.
-#[tactic(auto, using(crate::proofs::History::run_history))]
 pub fn run(tape: &[u8], out: &mut [u64]) -> Ran
     ensures ran { result ≡ ran tape.now (length out.old) }
     ensures out { out.new ≡ ran_out tape.now out.old }

@@ -5,21 +5,21 @@ use mathlib.Core.Path.{◌≡◌, refl, sym, ap, ◌∙◌, subst}
 use mathlib.Core.Bool.{true}
 use mathlib.Core.List.{List}
 use lib.ListN.{length}
-use borrow.Author.Rules.{rules}
 use Rattle.metadata.specs.Answers.{reported}
 use Rattle.metadata.specs.Model.{step}
 use Rattle.metadata.specs.Sound.{sound}
 use Rattle.metadata.specs.declared.Answer.{Answer}
 use Rattle.metadata.specs.declared.Answer.TheVariants as A
+use Rattle.metadata.specs.declared.kinds.TapeFault.TheVariants as F
 use Rattle.metadata.specs.declared.Answered.{Answered}
+use Rattle.metadata.specs.declared.Command.{Command}
 use Rattle.metadata.specs.declared.Store.{Store}
 use Rattle.reading.specs.declared.Next.{Next}
 use Rattle.reading.specs.declared.Next.TheVariants as N
 use Rattle.tape_commands.specs.Commands.{Done}
 use Rattle.answer_numbers.specs.Numbers.{written}
 use Rattle.reading.specs.Reader.{stopped, next_at, read_from, lines, command_at}
-use Rattle.reading.proofs.Reading.{next_end, read_unknown, read_cut}
-use Rattle.reading.proofs.Reading.{whole_less, whole_known, whole_fits}
+use Rattle.reading.proofs.Reading.{wholes, read_unknown, read_cut}
 use Rattle.tape_commands.proofs.Running.{Runs, runs_start, runs_next, next_room, runs_stop, stop-room, runs_end}
 
 -- ---- the loop: the answers so far end at the place
@@ -27,11 +27,10 @@ use Rattle.tape_commands.proofs.Running.{Runs, runs_start, runs_next, next_room,
 pub record Stands (l : List ℕ) (s₀ : Store) (at₀ : ℕ) (out₀ : List ℕ) (s : Store) (at place : ℕ) (out : List ℕ) : Type 0 where
   pub line : ℕ
   pub there : place ≡ 4 * line
-  pub long : length out ≡ length out₀
   pub runs : Runs l s₀ at₀ out₀ s at line out
 
 pub loop_start : (l : List ℕ) (s₀ : Store) (at₀ : ℕ) (out₀ : List ℕ) → sound s₀ ≡ true → 4 * lines (read_from l at₀) ≤ length out₀ → Stands l s₀ at₀ out₀ s₀ at₀ 0 out₀
-loop_start l s₀ at₀ out₀ e h = record { line = 0; there = refl; long = refl; runs = runs_start l s₀ at₀ out₀ e h }
+loop_start l s₀ at₀ out₀ e h = record { line = 0; there = refl; runs = runs_start l s₀ at₀ out₀ e h }
 
 -- x is what stands at the place
 module _ (l : List ℕ) (s₀ : Store) (at₀ : ℕ) (out₀ : List ℕ) (s : Store) (at place : ℕ) (out : List ℕ) (x : Next) where
@@ -39,16 +38,15 @@ module _ (l : List ℕ) (s₀ : Store) (at₀ : ℕ) (out₀ : List ℕ) (s : St
     pub loop_room : (b m : ℕ) → x ≡ next_at l at → x ≡ N.Whole b m → place + 4 ≤ length out
     loop_room b m q e = omega (arith, k.there, next_room l s₀ at₀ out₀ s at k.line out k.runs b m (sym q ∙ e))
 
-    pub loop_next : (b m : ℕ) (a : Answer) (s' : Store) (next : ℕ) (new : List ℕ) → x ≡ next_at l at → x ≡ N.Whole b m → next ≡ place + 4 →
-        ◌≡◌ {A = Answered} (record { answer = a; store = s' }) (step s (command_at b l (at + 1))) → new ≡ written out place (reported a) → length new ≡ length out → Stands l s₀ at₀ out₀ s' m next new
-    loop_next b m a s' next new q e f d w z =
+    pub loop_next : (b m : ℕ) (c : Command) (a : Answer) (s' : Store) (new : List ℕ) → x ≡ next_at l at → x ≡ N.Whole b m → c ≡ command_at b l (at + 1) →
+        ◌≡◌ {A = Answered} (record { answer = a; store = s' }) (step s c) → new ≡ written out place (reported a) → Stands l s₀ at₀ out₀ s' m (place + 4) new
+    loop_next b m c a s' new q e f d w =
         record {
           line = k.line + 1;
-          there = omega (arith, f, k.there);
-          long = z ∙ k.long;
+          there = omega (arith, k.there);
           runs =
               subst (λ (n : List ℕ). Runs l s₀ at₀ out₀ s' m (k.line + 1) n) (sym (w ∙ ap (λ (i : ℕ). written out i (reported a)) k.there))
-              (subst (λ (y : Answered). Runs l s₀ at₀ out₀ y.store m (k.line + 1) (written out (4 * k.line) (reported y.answer))) (sym d)
+              (subst (λ (y : Answered). Runs l s₀ at₀ out₀ y.store m (k.line + 1) (written out (4 * k.line) (reported y.answer))) (sym (rw f at d))
               (runs_next l s₀ at₀ out₀ s at k.line out k.runs b m (sym q ∙ e)));
         }
 
@@ -56,34 +54,24 @@ module _ (l : List ℕ) (s₀ : Store) (at₀ : ℕ) (out₀ : List ℕ) (s : St
     stops a new e w =
         subst (λ (n : List ℕ). Done l s₀ at₀ out₀ s n) (sym (w ∙ ap (λ (i : ℕ). written out i (reported a)) k.there)) (runs_stop l s₀ at₀ out₀ s at k.line out k.runs a e)
 
+    -- Two laws each for the room and the end, an unknown byte and a command cut short: they are goals of two ways out, each with its own answer.
     pub unknown_room : (b : ℕ) → x ≡ next_at l at → x ≡ N.Unknown b → place + 4 ≤ length out
-    unknown_room b q e = omega (arith, k.there, stop-room l s₀ at₀ out₀ s at k.line out k.runs (A.BadTape 1 b) (read_unknown l at b (sym q ∙ e)))
+    unknown_room b q e = omega (arith, k.there, stop-room l s₀ at₀ out₀ s at k.line out k.runs (A.BadTape F.Unknown b) (read_unknown l at b (sym q ∙ e)))
 
     pub cut_room : (b : ℕ) → x ≡ next_at l at → x ≡ N.Cut b → place + 4 ≤ length out
-    cut_room b q e = omega (arith, k.there, stop-room l s₀ at₀ out₀ s at k.line out k.runs (A.BadTape 2 b) (read_cut l at b (sym q ∙ e)))
+    cut_room b q e = omega (arith, k.there, stop-room l s₀ at₀ out₀ s at k.line out k.runs (A.BadTape F.Cut b) (read_cut l at b (sym q ∙ e)))
 
-    pub unknown_done : (b : ℕ) (new : List ℕ) → x ≡ next_at l at → x ≡ N.Unknown b → new ≡ written out place (reported (A.BadTape 1 b)) → Done l s₀ at₀ out₀ s new
-    unknown_done b new q e w = stops (A.BadTape 1 b) new (read_unknown l at b (sym q ∙ e)) w
+    pub unknown_done : (b : ℕ) (new : List ℕ) → x ≡ next_at l at → x ≡ N.Unknown b → new ≡ written out place (reported (A.BadTape F.Unknown b)) → Done l s₀ at₀ out₀ s new
+    unknown_done b new q e w = stops (A.BadTape F.Unknown b) new (read_unknown l at b (sym q ∙ e)) w
 
-    pub cut_done : (b : ℕ) (new : List ℕ) → x ≡ next_at l at → x ≡ N.Cut b → new ≡ written out place (reported (A.BadTape 2 b)) → Done l s₀ at₀ out₀ s new
-    cut_done b new q e w = stops (A.BadTape 2 b) new (read_cut l at b (sym q ∙ e)) w
+    pub cut_done : (b : ℕ) (new : List ℕ) → x ≡ next_at l at → x ≡ N.Cut b → new ≡ written out place (reported (A.BadTape F.Cut b)) → Done l s₀ at₀ out₀ s new
+    cut_done b new q e w = stops (A.BadTape F.Cut b) new (read_cut l at b (sym q ∙ e)) w
 
     pub end_done : x ≡ next_at l at → x ≡ N.End → Done l s₀ at₀ out₀ s out
     end_done q e = runs_end l s₀ at₀ out₀ s at k.line out k.runs (sym q ∙ e)
 
-    pub same_after : (new : List ℕ) → length new ≡ length out → length new ≡ length out₀
-    same_after new z = z ∙ k.long
-
 pub loop_sound : (l : List ℕ) (s₀ : Store) (at₀ : ℕ) (out₀ : List ℕ) (s : Store) (at place : ℕ) (out : List ℕ) → Stands l s₀ at₀ out₀ s at place out → sound s ≡ true
 loop_sound l s₀ at₀ out₀ s at place out k = k.runs.sounds
 
-pub over_done : (l : List ℕ) (s₀ : Store) (at₀ : ℕ) (out₀ : List ℕ) (s : Store) (at place : ℕ) (out : List ℕ) → Stands l s₀ at₀ out₀ s at place out → length l ≤ at →
-    Done l s₀ at₀ out₀ s out
-over_done l s₀ at₀ out₀ s at place out k h = runs_end l s₀ at₀ out₀ s at k.line out k.runs (sym (next_end l at h))
-
-pub same_now : (l : List ℕ) (s₀ : Store) (at₀ : ℕ) (out₀ : List ℕ) (s : Store) (at place : ℕ) (out : List ℕ) → Stands l s₀ at₀ out₀ s at place out → length out ≡ length out₀
-same_now l s₀ at₀ out₀ s at place out k = k.long
-
--- for `search running` at each goal of the loop
-pub ruleset running =
-    (loop_start, whole_known, whole_fits, whole_less, loop_sound, loop_room, loop_next, unknown_room, cut_room, unknown_done, cut_done, end_done, over_done, same_after, same_now, rules)
+-- for `using` on `run_commands`: what its steps ask for, beside the laws of each way out
+pub ruleset running = (wholes, loop_start, loop_sound)

@@ -1,4 +1,4 @@
-#![tactic(auto, using(crate::proofs::Loop::running))]
+#![tactic(auto)]
 
 // The commands of a tape behind its opening, one after the other, their answers written as numbers.
 ghost use Rattle.metadata.specs.Sound.{sound};
@@ -7,16 +7,18 @@ ghost use Rattle.std.specs.Prelude.{◌≡◌, true, ◌*◌, ◌≤◌, length}
 ghost use Rattle.tape_commands.specs.Commands.{Done};
 
 use answer_numbers::write_answer;
-use metadata::{Answer, Store};
+use metadata::{Answer, Store, TapeFault};
 use reading::{Next, command_at, next_at};
 use steps::step;
 
-// Inner: `run` shows that the store is sound, and that there is room for every answer.
+// A walk over the tape as `reading::count_lines` has it, each command run and its answer written. Inner: `run` shows that the store is sound, and that there is room for every answer.
+#[tactic(auto, using(crate::proofs::Loop::running))]
 pub fn run_commands(store: &mut Store, tape: &[u8], from: usize, out: &mut [u64])
     requires { (sound store.old ≡ true) × (4 * lines (read_from tape.now from) ≤ length out.old) }
     ensures { Done tape.now store.old from out.old store.new out.new }
 {
     let mut at = from;
+    // Where the next answer is written. The loop goes over places of the tape and no list, so `enumerate` has nothing to number.
     let mut place: usize = 0;
     loop {
         match next_at(tape, at) {
@@ -27,11 +29,11 @@ pub fn run_commands(store: &mut Store, tape: &[u8], from: usize, out: &mut [u64]
                 place += 4;
             }
             Next::Unknown(b) => {
-                write_answer(out, place, Answer::BadTape(1, b));
+                write_answer(out, place, Answer::BadTape(TapeFault::Unknown, b));
                 return;
             }
             Next::Cut(b) => {
-                write_answer(out, place, Answer::BadTape(2, b));
+                write_answer(out, place, Answer::BadTape(TapeFault::Cut, b));
                 return;
             }
             Next::End => return,

@@ -34,7 +34,9 @@ fn print_answer(to: Stdout, numbers: &[u64], line: u64) {
     }
 }
 
-// The lines of the answers; the first is line 0 where the opening was refused.
+// The lines of the answers, of which there are `count` in the lent numbers; the first is line 0 where the opening was refused.
+// The count stands beside the list, since the list has a fixed room and the run says how many answers it wrote there.
+// `line` begins at `first` and is a u64, where `enumerate` would number from 0 on, in a usize.
 fn print_answers(out: Stdout, numbers: &[u64], count: usize, first: u64) {
     let mut line = first;
     for answer in numbers.chunks_exact(4).take(count) {

@@ -1,9 +1,8 @@
-use borrow.Author.Rules.{rules}
-use Rattle.choice.proofs.Picking.{pick_stop, pick_end}
+-- Open without it: the next turn of the loop. `pick_more` takes the invariant, and speaks of the list after the push.
+use Rattle.std.proofs.Common.{arith}
+use Rattle.std.proofs.lemmas.Grind.{common_steps}
+use Rattle.choice.proofs.Picking.{pick_more}
 use Rattle.choice.proofs.choose.Goals as goal
 
-pub returns-in_default : goal.returns-in_default
-returns-in_default c = search (rules, pick_stop)
-
-pub returns : goal.returns
-returns c = search (rules, pick_end)
+pub loop-chosen-preserved : goal.loop-chosen-preserved
+loop-chosen-preserved c = rw c.push.ensures (grind (arith, common_steps, pick_more c.loop-chosen.invariant))

@@ -1,3 +1,4 @@
+-- Open without them: that one turn adds the label of one node, and that the end counts all. `count_more` and `count_end` take the invariant and the test as arguments.
 use Rattle.labels.proofs.Count.{count_more, count_end}
 use Rattle.std.proofs.Common.{arith}
 use Rattle.labels.proofs.distinct.Goals as goal

@@ -1,3 +1,4 @@
+-- Open without them: the next turn and the two ways out. Each law takes the relation `e` that the closure gives, and what the iterator gave, as arguments.
 use Rattle.std.proofs.Common.{sym, ◌∙◌}
 use Rattle.lists.proofs.Twice.{first_again, first_differs, none_left}
 use Rattle.lists.proofs.none_twice.Goals as goal

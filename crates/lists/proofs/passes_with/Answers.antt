@@ -1,3 +1,4 @@
+-- What the closure says of each row is not found by itself: the law takes it as a premise.
 use Rattle.std.proofs.Common.{rules}
 use Rattle.std.proofs.lemmas.Iterator.{YieldsList-from_slice}
 use Rattle.std.proofs.lemmas.Iterator.Search.{any_from_yields_List}

@@ -1,3 +1,4 @@
+-- Open without them: the next turn of the walk, and its two ways out. Each is found from one law, which `using` on the function would try at every goal.
 use Rattle.std.proofs.Common.{rules}
 use Rattle.reading.proofs.Reading.{count_whole, count_stopped, count_none}
 use Rattle.reading.proofs.count_lines.Goals as goal

@@ -1,3 +1,4 @@
+-- What the closure reads at each place is not found by itself: `whole` takes it as a premise.
 use Rattle.std.proofs.Common.{rules}
 use Rattle.decode.specs.Decode.{node_id_at}
 use Rattle.decode.proofs.Listed.{whole}

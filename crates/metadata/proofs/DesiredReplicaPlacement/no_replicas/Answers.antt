@@ -1,3 +1,4 @@
+-- Open without it: that an array equal to one of zeros is zero in every place. `filled_is` takes the equality of two replicas as an argument, which the goal does not name.
 use Rattle.std.proofs.Common.{◌∙◌}
 use Rattle.laws.proofs.Fills.{filled_is}
 use Rattle.metadata.specs.Rooms.{replica_room}

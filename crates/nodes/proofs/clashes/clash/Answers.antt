@@ -1,3 +1,4 @@
+-- Open without them: the next turn of the inner loop, and the way out with a clash. Their laws take what `clash_at` found joined with what the branch says of it.
 use Rattle.std.proofs.Common.{sym, ◌∙◌}
 use Rattle.nodes.proofs.Endpoints.{fields_next, fields_stop, rows_stop}
 use Rattle.nodes.proofs.clashes.clash.Goals as goal

@@ -1,3 +1,4 @@
+-- What the closure says of each row is not found by itself: the law takes it as a premise. Here the rows come from the last on.
 use Rattle.std.specs.Prelude.{eqb}
 use Rattle.std.proofs.Common.{rules, tests, ◌∙◌}
 use Rattle.std.proofs.lemmas.Iterator.Adapters.{YieldsList-from_rev_slice}

@@ -11,5 +11,4 @@ invariant-loop-r l =
     (λ n. n.now)
     l.r-items
     l.r-index
-    l.on.count
-    l.on.nodes
+    l.on

@@ -1,11 +1,8 @@
-use Rattle.std.proofs.Common.{rules, tests, sym, ◌∙◌}
-use Rattle.std.proofs.lemmas.Iterator.{YieldsList-from_slice}
-use Rattle.std.proofs.lemmas.Iterator.Search.{any_from_yields_List}
-use Rattle.laws.proofs.Found.{has_any}
-use Rattle.table.specs.Tables.{under, view}
+-- What the closure says of each row is not found by itself: the law takes it as a premise.
+use Rattle.std.proofs.Common.{rules, tests}
+use Rattle.laws.proofs.Found.{has_from_any}
+use Rattle.table.specs.Tables.{view}
 use Rattle.table.proofs.Table.contains.Goals as goal
 
 pub returns : goal.returns
-returns g c =
-    any_from_yields_List (under g.R.Row.keyed (g.R.Row.key_of c.args.key)) _ _ _ c.any.ensures.ran (YieldsList-from_slice (view c.args.self.now) cc) (λ x b q k. search (rules, tests))
-    ∙ sym (has_any g.R.Row.keyed (g.R.Row.key_of c.args.key) (view c.args.self.now))
+returns g c = has_from_any _ _ g.R.Row.keyed (g.R.Row.key_of c.args.key) (view c.args.self.now) _ c.any.ensures.ran (cc) (λ x b q k. search (rules, tests))

@@ -1,0 +1,73 @@
+// What an answer names: a failure domain, a kind of table, a fault of a tape. Each has document 01's number.
+ghost use Rattle.metadata.specs.Kinds.{domain_number, fault_number, label_of, table_number};
+ghost use Rattle.std.specs.Prelude.{◌≡◌};
+
+use crate::{NodeDescriptor, OptionalLabel};
+
+// What keeps copies apart: each node has a label for it.
+#[derive(Clone, Copy, PartialEq, Eq, Debug)]
+pub enum Domain {
+    Region,
+    Zone,
+    Rack,
+}
+
+impl Domain {
+    pub fn number(self) -> u8
+        ensures { result ≡ domain_number self }
+    {
+        match self {
+            Domain::Region => 0,
+            Domain::Zone => 1,
+            Domain::Rack => 2,
+        }
+    }
+
+    pub fn label_of(self, n: &NodeDescriptor) -> &OptionalLabel
+        ensures { result.now ≡ label_of self n.now }
+    {
+        match self {
+            Domain::Region => &n.region,
+            Domain::Zone => &n.zone,
+            Domain::Rack => &n.rack,
+        }
+    }
+}
+
+// The tables that can be full. Tablets and their placements share the room and the number.
+#[derive(Clone, Copy, PartialEq, Eq, Debug)]
+pub enum TableKind {
+    Nodes,
+    Tablets,
+    Retirements,
+}
+
+impl TableKind {
+    pub fn number(self) -> u8
+        ensures { result ≡ table_number self }
+    {
+        match self {
+            TableKind::Nodes => 0,
+            TableKind::Tablets => 1,
+            TableKind::Retirements => 2,
+        }
+    }
+}
+
+// What is wrong with a tape: a byte that is no command, or a command that is cut short.
+#[derive(Clone, Copy, PartialEq, Eq, Debug)]
+pub enum TapeFault {
+    Unknown,
+    Cut,
+}
+
+impl TapeFault {
+    pub fn number(self) -> u8
+        ensures { result ≡ fault_number self }
+    {
+        match self {
+            TapeFault::Unknown => 1,
+            TapeFault::Cut => 2,
+        }
+    }
+}
