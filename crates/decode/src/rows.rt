@@ -1,4 +1,4 @@
-// Rows read from a lent slice, field by field.
+// Rows read from a lent slice, field by field. No `TryFrom`, since who reads has tested that the bytes are there.
 ghost use Rattle.decode.specs.Decode.{node_at, tablet_at, replica_at, placement_at, retirement_at, table_at, list_at, node_id_at};
 ghost use Rattle.metadata.specs.Rooms.{replica_room, table_room};
 ghost use Rattle.std.specs.Prelude.{◌≡◌, ◌+◌, ◌*◌, ◌≤◌, length, take};

@@ -20,7 +20,7 @@ pub extern "C" fn lupinadze_answers(tape: &[u8]) -> u64
     counted.lines as u64
 }
 
-// Runs a tape: four numbers for each answer go to the lent list, and how many answers there are is handed back. Too short a list: no number is written.
+// Runs a tape: four numbers for each answer go to the lent list, and how many answers there are is handed back. Too short a list: no number is written. What the list has then is said as `tape::run` says it.
 #[tactic(auto, unfolding(tape::specs::Tape::ran, crate::specs::Linked::run_result))]
 #[unsafe(no_mangle)]
 pub extern "C" fn lupinadze_run(tape: &[u8], out: &mut [u64]) -> u64

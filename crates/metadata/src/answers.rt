@@ -1,4 +1,4 @@
-// An answer as document 01 prints it: its number and three operands.
+// An answer as document 01 prints it: its number and three operands. `report` is no `From`, which would not say that these are the numbers that are printed.
 ghost use Rattle.metadata.specs.Answers.{is_applied, report, reported};
 ghost use Rattle.std.specs.Prelude.{◌≡◌};
 

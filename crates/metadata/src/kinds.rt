@@ -1,4 +1,5 @@
-// What an answer names: a failure domain, a kind of table, a fault of a tape. Each has document 01's number.
+// What an answer names: a failure domain, a kind of table, a fault of a tape. Each has document 01's number; `number` says which number that is, `u8::from` would not,
+// and stands at each of the three, since nothing asks for the number of any of them.
 ghost use Rattle.metadata.specs.Kinds.{domain_number, fault_number, label_of, table_number};
 ghost use Rattle.std.specs.Prelude.{◌≡◌};
 
@@ -54,7 +55,7 @@ impl TableKind {
     }
 }
 
-// What is wrong with a tape: a byte that is no command, or a command that is cut short.
+// What is wrong with a tape: a byte that is no command, or a command that is cut short. Two faults of one rank, so no `Option` of one.
 #[derive(Clone, Copy, PartialEq, Eq, Debug)]
 pub enum TapeFault {
     Unknown,

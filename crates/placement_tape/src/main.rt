@@ -45,7 +45,7 @@ fn is_last(rt: HostRuntime) -> bool {
     }
 }
 
-// A write that fails is passed over.
+// A fixed text, so no `Display`. A write that fails is passed over.
 fn say_usage(rt: HostRuntime) {
     let _ = rt
         .stderr()

@@ -70,7 +70,7 @@ fn kept_replica(k: ReplicaId, old: &[DesiredReplica]) -> Option<&DesiredReplica>
 }
 
 // A replica that is kept stays on its node, and a voter stays one.
-// The role is a byte, judged here alone: 0 is a Voter, 1 a Learner. An enum would be made only to be compared.
+// The role is a byte, judged here and by reason 5: 0 is a Voter, 1 a Learner. An enum would be made only to be compared.
 fn judge_kept(r: &DesiredReplica, kept: Option<&DesiredReplica>) -> Result<(), Answer>
     ensures { Gives result (judge_kept r.now (option_map (λ o. o.now) kept.entry)) }
 {

@@ -1,4 +1,4 @@
-// The pieces of a line: numbers and texts, each with a space before it.
+// The pieces of a line: numbers and texts, each with a space before it. Each says its own room, and is no `Display` (lib.rt says why).
 ghost use Rattle.std.specs.Prelude.{◌≡◌, ◌+◌, ◌*◌, ◌≤◌, ◌<◌, ◌++◌};
 ghost use Rattle.arrayvec.specs.ArrayString.{array_string_len};
 ghost use Rattle.row_lines.specs.Pieces.{three_numbers, hex_digit, hex_pair, text_field, optional_field};

@@ -1,4 +1,4 @@
-// The line of a placement.
+// The line of a placement. Each piece says its own room, and is no `Display` (lib.rt says why).
 ghost use Rattle.std.specs.Prelude.{◌≡◌, ◌+◌, ◌≤◌, ◌++◌};
 ghost use Rattle.arrayvec.specs.ArrayString.{array_string_len};
 ghost use Rattle.row_lines.specs.PlacementLines.{replica_text, node_number, minima_text, policy_text, replicas_text, placement_line};

@@ -1,4 +1,4 @@
-// The lines that are no row's: the name, the marks, the next replica and the first choice.
+// The lines that are no row's: the name, the marks, the next replica and the first choice. Each says its own room, and is no `Display` (lib.rt says why).
 ghost use Rattle.std.specs.Prelude.{◌≡◌, ◌+◌, ◌≤◌, ◌++◌, length, take};
 ghost use Rattle.metadata.specs.Rooms.{initial_replication_factor};
 ghost use Rattle.arrayvec.specs.ArrayString.{array_string_len};

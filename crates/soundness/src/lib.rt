@@ -108,7 +108,7 @@ pub fn sound_marks(c: &Catalog) -> bool
     tables_below(c) && tablets_below(c) && groups_below(c) && placements_below(c)
 }
 
-// ---- the store
+// ---- the store; each list of rows is one chain, as above
 
 fn nodes_sound(d: &Directory) -> bool
     ensures { result ≡ every sound_node (view_nodes d.now.nodes) }

@@ -54,6 +54,7 @@ pub fn apply_register_node(s: &mut Store, n: &NodeDescriptor) -> Answer
     apply(s, &Command::Registering(*n))
 }
 
+// `to` is any byte, as in the command.
 pub fn apply_set_node_lifecycle(s: &mut Store, k: NodeId, to: u8) -> Answer
     ensures { ◌≡◌ {A = Answered} (record { answer = result; store = s.new }) (entry s.old (lifecycle k to)) }
 {

@@ -89,7 +89,7 @@ fn group_held(group: RaftGroupId, tablets: &Tablets) -> bool
     tablets.used().iter().any(|t| t.raft_group_id == group)
 }
 
-// The checks of a Hash tablet.
+// The checks of a Hash tablet. Each check is lent the tables that it reads and the tablet, one by one.
 #[tactic(auto, unfolding(metadata::specs::Tablets::judge_hash, metadata::specs::Answers::refuse, metadata::specs::Answers::and_then))]
 pub fn judge_hash(tables: &Tables, tablets: &Tablets, t: &TabletDescriptor) -> Result<(), Answer>
     ensures { Gives result (judge_hash (view_tables tables.now) (view_tablets tablets.now) t.now) }

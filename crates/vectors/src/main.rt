@@ -17,7 +17,7 @@ const TAPE_ROOM: usize = 65536;
 
 const NUMBER_ROOM: usize = 4096;
 
-// The line of the answer whose four numbers these are.
+// The line of the answer whose four numbers these are, by the function that writes the lines of the program.
 fn print_answer(to: Stdout, numbers: &[u64], line: u64) {
     if let [number, a, b, c] = numbers {
         let number = u8::try_from(*number).unwrap_or(u8::MAX);
@@ -56,7 +56,7 @@ fn replay(out: Stdout, tape: &[u8]) {
     dump_store(out, &ran.store);
 }
 
-// The next name on standard input, on a line of its own.
+// The next name on standard input, on a line of its own: any bytes, so no `str` and no `Display`.
 fn print_name(input: Stdin, out: Stdout, size: usize) {
     let mut buf = [0u8; NAME_ROOM];
     if size <= NAME_ROOM {
