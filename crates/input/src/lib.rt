@@ -2,7 +2,7 @@
 
 // The tape on standard input: what is left of a buffer goes to its front, and more is read behind it.
 ghost use Rattle.input.specs.Buffers.{buffer_size, Kept};
-ghost use Rattle.std.specs.Prelude.{◌≡◌, ◌≤◌, take, length};
+ghost use Rattle.std.specs.Prelude.{◌≡◌, ◌≤◌, ◌+◌, ◌-◌, take, length};
 
 use std::io::Read;
 use std::rt::Stdin;
@@ -67,7 +67,8 @@ impl Buffer {
     #[tactic(auto, using(crate::proofs::Moving::kept))]
     pub fn refill(&mut self, input: Stdin, at: usize) -> usize
         requires { at ≤ self.old.have }
-        ensures { Kept at self.old.have self.old.bytes self.new.bytes self.new.have }
+        ensures kept { Kept at self.old.have self.old.bytes self.new.bytes self.new.have }
+        ensures came { self.old.have - at + result ≡ self.new.have }
     {
         let left = self.have - at;
         self.bytes.copy_within(at..self.have, 0);

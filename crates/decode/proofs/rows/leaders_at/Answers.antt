@@ -2,9 +2,10 @@
 use Rattle.std.proofs.Common.{rules}
 use Rattle.decode.specs.Decode.{node_id_at}
 use Rattle.decode.proofs.Listed.{whole}
+use Rattle.metadata.specs.Rooms.{replica_room}
 use Rattle.decode.proofs.rows.leaders_at.Goals as goal
 
 pub returns : goal.returns
 returns c =
     let read = c.from_fn.ensures.items in
-    whole node_id_at 8 c.args.s.now 7 c.args.at c.from_fn.result read.long (λ i e h. let called = read.at i e h in search rules)
+    whole node_id_at 8 c.args.s.now replica_room c.args.at c.from_fn.result read.long (λ i e h. let called = read.at i e h in search rules)
