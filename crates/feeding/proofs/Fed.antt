@@ -8,6 +8,9 @@ use lib.ListN.{take, length-take}
 use Rattle.chunks.proofs.Feeding.{run_both}
 use Rattle.chunks.specs.Chunks.{Reached, Fed}
 use Rattle.chunks.specs.declared.Chunk.{Chunk}
+use Rattle.feeding.specs.Carried.{Carried}
+use Rattle.input.specs.Buffers.{Kept}
+use Rattle.input.specs.declared.Buffer.{Buffer}
 use Rattle.metadata.specs.Sound.{sound, run}
 use Rattle.metadata.specs.declared.Store.{Store}
 
@@ -32,6 +35,13 @@ module _ (l : List ℕ) (n : ℕ) (s : Store) (from first : ℕ) (old : List ℕ
 
   pub fed_inside : c.at ≤ n
   fed_inside = omega (arith, k.inside, length-take n l)
+
+-- what is left of a buffer goes to the front of it
+pub carried : (at : ℕ) (before after : Buffer) → Kept at before.have before.bytes after.bytes after.have → Carried at 0 before after
+carried at before after k = record { inside = omega (arith, k.whole); same = k.same }
+
+pub carried_inside : (at to : ℕ) (before after : Buffer) → Carried at to before after → to ≤ after.have
+carried_inside at to before after c = omega (arith, c.inside)
 
 -- for `using` on the whole crate: that the store stays sound and is reached, and that the place is inside, by `turn`, `feed_all` and `run_tape`
 pub ruleset turning = (reached_none, reached_on, fed_reached, fed_sound, fed_inside)

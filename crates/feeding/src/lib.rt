@@ -2,6 +2,7 @@
 
 // A tape from standard input, run as it is read: never more than a buffer of it is held. The lines go to standard output.
 ghost use Rattle.chunks.specs.Chunks.{Reached};
+ghost use Rattle.feeding.specs.Carried.{Carried};
 ghost use Rattle.metadata.specs.Sound.{sound};
 ghost use Rattle.std.specs.Prelude.{◌≡◌, true, ◌≤◌, IfSome};
 
@@ -27,8 +28,21 @@ fn finish(to: Stdout, left: &[u8], line: u64) {
     }
 }
 
+// More of the input is read behind what is left from a place on: where that stands then, none where the input ended.
+#[tactic(auto, using(crate::proofs::Fed::carried))]
+fn read_on(input: Stdin, buffer: &mut Buffer, at: usize) -> Option<usize>
+    requires { at ≤ buffer.old.have }
+    ensures { IfSome result (λ to. Carried at to buffer.old buffer.new) }
+{
+    if buffer.refill(input, at) == 0 {
+        return None;
+    }
+    Some(0)
+}
+
 // The commands at hand are run and their lines written; where the run stands then, none where all is done.
 // `input`, `to`, `store` and `buffer` are handles and what is lent for the whole run: a struct of them would be taken apart again in each function.
+#[tactic(auto, using(crate::proofs::Fed::turning, crate::proofs::Fed::carried_inside))]
 fn turn(
     input: Stdin,
     to: Stdout,
@@ -50,11 +64,11 @@ fn turn(
         Pause::Stopped => None,
         Pause::Full => Some(Place { at, line }),
         Pause::Short => {
-            if buffer.refill(input, at) == 0 {
+            let Some(at) = read_on(input, buffer, at) else {
                 finish(to, buffer.at_hand(), line);
                 return None;
-            }
-            Some(Place { at: 0, line })
+            };
+            Some(Place { at, line })
         }
     }
 }
