@@ -4,7 +4,7 @@
 ghost use Rattle.laws.specs.Lists.{any};
 ghost use Rattle.metadata.specs.Answers.{is_applied};
 ghost use Rattle.metadata.specs.Labels.{beats, best_of, better, candidate, choose, id_at, judge_picking, locality_gain, policy_of, select_initial_placement, step_best};
-ghost use Rattle.metadata.specs.Model.{view_nodes};
+ghost use Rattle.metadata.specs.Stored.{view_nodes};
 ghost use Rattle.std.specs.Option.{option_map};
 ghost use Rattle.std.specs.Prelude.{◌≡◌, ◌≤◌, [], ◌∷◌, false, None, eqb, length, map};
 

@@ -3,124 +3,119 @@ use Rattle.std.proofs.Common.{◌≡◌, ℕ, ◌+◌, ◌-◌, ◌<◌, ◌≤�
 use Rattle.laws.proofs.ListLaws.{never}
 use Rattle.lines.specs.Lines.{line_text}
 use Rattle.metadata.specs.Answers.{reported}
-use Rattle.metadata.specs.Model.{step}
 use Rattle.metadata.specs.declared.Command.{Command}
-use Rattle.metadata.specs.Sound.{sound, entry, run}
+use Rattle.metadata.specs.Model.{StoreRows, step, run, answers}
+use Rattle.metadata.specs.Stored.{view, sound, Stepped}
 use Rattle.metadata.specs.declared.Answer.{Answer}
 use Rattle.metadata.specs.declared.Answer.TheVariants as A
 use Rattle.metadata.specs.declared.kinds.TapeFault.TheVariants as F
-use Rattle.metadata.specs.declared.Answered.{Answered}
 use Rattle.metadata.specs.declared.Reported.{Reported}
 use Rattle.metadata.specs.declared.Store.{Store}
-use Rattle.metadata.proofs.Theorem.{entry-step, step-sound}
 use Rattle.reading.specs.declared.Next.{Next}
 use Rattle.reading.specs.declared.Next.TheVariants as N
-use Rattle.reading.specs.Reader.{Reading, next_at, read_from, tape_answers, command_at}
-use Rattle.reading.proofs.Reading.{whole, wholes, read_whole, read_end, read_unknown, read_cut, next_end}
+use Rattle.reading.specs.Places.{Stands, none, is_whole, is_unknown, stop_of}
+use Rattle.reading.specs.Reader.{next_at, command_at}
+use Rattle.reading.proofs.Places.{stands_last}
+use Rattle.reading.proofs.Reading.{whole, wholes, next_end}
 use Rattle.chunks.specs.declared.Chunk.{Chunk}
 use Rattle.chunks.specs.declared.Pause.{Pause}
 use Rattle.chunks.specs.declared.Pause.TheVariants as P
 use Rattle.chunks.specs.Chunks.{line_room, next_line, lines_text, line_behind, Fed}
 
--- ---- one line more
+-- ---- lines of two lists of answers, one behind the other
 
-lines_more : (n : ℕ) (l : List Answer) (a : Answer) → lines_text n l ++ line_text (line_behind n l) (reported a) ≡ lines_text n (l ++ a ∷ [])
+pub lines_both : (n : ℕ) (a b : List Answer) → lines_text n (a ++ b) ≡ lines_text n a ++ lines_text (line_behind n a) b
 unfolding lines_text line_behind
-lines_more n [] a = sym (append-nil (line_text n (reported a)))
-lines_more n (x ∷ l) a =
-    append_assoc (line_text n (reported x)) (lines_text (next_line n) l) (line_text (line_behind (next_line n) l) (reported a))
-    ∙ ap (λ (t : List ℕ). line_text n (reported x) ++ t) (lines_more (next_line n) l a)
+lines_both n [] b = refl
+lines_both n (x ∷ a) b =
+    ap (λ (t : List ℕ). line_text n (reported x) ++ t) (lines_both (next_line n) a b)
+    ∙ sym (append_assoc (line_text n (reported x)) (lines_text (next_line n) a) (lines_text (line_behind (next_line n) a) b))
 
-behind_more : (n : ℕ) (l : List Answer) (a : Answer) → next_line (line_behind n l) ≡ line_behind n (l ++ a ∷ [])
+pub behind_both : (n : ℕ) (a b : List Answer) → line_behind n (a ++ b) ≡ line_behind (line_behind n a) b
 unfolding line_behind
-behind_more n [] a = refl
-behind_more n (x ∷ l) a = behind_more (next_line n) l a
+behind_both n [] b = refl
+behind_both n (x ∷ a) b = behind_both (next_line n) a b
 
--- ---- one command more
+pub one_line : (n : ℕ) (a : Answer) → lines_text n (a ∷ []) ≡ line_text n (reported a)
+unfolding lines_text
+one_line n a = append-nil (line_text n (reported a))
 
-pub run_both : (s : Store) (cs ds : List Command) → run s (cs ++ ds) ≡ run (run s cs) ds
+one_behind : (n : ℕ) (a : Answer) → line_behind n (a ∷ []) ≡ next_line n
+unfolding line_behind
+one_behind n a = refl
+
+-- ---- commands of two lists, one behind the other
+
+pub run_both : (s : StoreRows) (cs ds : List Command) → run s (cs ++ ds) ≡ run (run s cs) ds
 run_both s [] ds = refl
-run_both s (x ∷ cs) ds = run_both (entry s x).store cs ds
+run_both s (x ∷ cs) ds = run_both (step s x).rows cs ds
+
+pub answers_both : (s : StoreRows) (cs ds : List Command) → answers s (cs ++ ds) ≡ answers s cs ++ answers (run s cs) ds
+answers_both s [] ds = refl
+answers_both s (x ∷ cs) ds = ap (λ (t : List Answer). (step s x).answer ∷ t) (answers_both (step s x).rows cs ds)
 
 -- ---- the loop: what was run so far, and its lines
 
-pub record Feeding (l : List ℕ) (s₀ : Store) (from first : ℕ) (old : List ℕ) (s : Store) (at line : ℕ) (out : List ℕ) : Type 0 where
+pub record Feeding (l : List ℕ) (s₀ : Store) (first : ℕ) (old : List ℕ) (s : Store) (at line : ℕ) (out : List ℕ) : Type 0 where
   pub commands : List Command
-  pub ran : s ≡ run s₀ commands
-  pub first_ones : (read_from l from).commands ≡ commands ++ (read_from l at).commands
-  pub done : List Answer
-  pub split : tape_answers s₀ (read_from l from) ≡ done ++ tape_answers s (read_from l at)
-  pub store : run s₀ (read_from l from).commands ≡ run s (read_from l at).commands
-  pub text : out ≡ old ++ lines_text first done
-  pub numbered : line ≡ line_behind first done
+  pub stand : Stands l 0 commands at
+  pub ran : view s ≡ run (view s₀) commands
+  pub text : out ≡ old ++ lines_text first (answers (view s₀) commands)
+  pub numbered : line ≡ line_behind first (answers (view s₀) commands)
   pub sounds : sound s ≡ true
   pub inside : at ≤ length l
 
-pub feed_start : (l : List ℕ) (s₀ : Store) (from first : ℕ) (old : List ℕ) → sound s₀ ≡ true → from ≤ length l → Feeding l s₀ from first old s₀ from first old
+pub feed_start : (l : List ℕ) (s₀ : Store) (first : ℕ) (old : List ℕ) → sound s₀ ≡ true → Feeding l s₀ first old s₀ 0 first old
 unfolding lines_text line_behind
-feed_start l s₀ from first old e h =
-    record {
-      commands = [];
-      ran = refl;
-      first_ones = refl;
-      done = [];
-      split = refl;
-      store = refl;
-      text = sym (append-nil old);
-      numbered = refl;
-      sounds = e;
-      inside = h;
-    }
+feed_start l s₀ first old e =
+    record { commands = []; stand = none; ran = refl; text = sym (append-nil old); numbered = refl; sounds = e; inside = omega arith }
 
-module _ (l : List ℕ) (s₀ : Store) (from first : ℕ) (old : List ℕ) (s : Store) (at line : ℕ) (out : List ℕ) (k : Feeding l s₀ from first old s at line out) where
+module _ (l : List ℕ) (s₀ : Store) (first : ℕ) (old : List ℕ) (s : Store) (at line : ℕ) (out : List ℕ) (k : Feeding l s₀ first old s at line out) where
   -- Of the loop as it goes; `fed_sound` of the crate feeding says the same of what a run left.
   pub feed_sound : sound s ≡ true
   feed_sound = k.sounds
 
   -- the line of one more answer
-  line_more : (a : Answer) (r : Reported) (new : List ℕ) → r ≡ reported a → new ≡ out ++ line_text line r → new ≡ old ++ lines_text first (k.done ++ a ∷ [])
+  line_more : (a : Answer) (r : Reported) (new : List ℕ) → r ≡ reported a → new ≡ out ++ line_text line r → new ≡ old ++ lines_text first (answers (view s₀) k.commands ++ a ∷ [])
   line_more a r new e p =
       p
-      ∙ ap₂ (λ (o t : List ℕ). o ++ t) k.text (ap₂ line_text k.numbered e)
-      ∙ append_assoc old (lines_text first k.done) (line_text (line_behind first k.done) (reported a))
-      ∙ ap (λ (t : List ℕ). old ++ t) (lines_more first k.done a)
+      ∙ ap₂ (λ (o t : List ℕ). o ++ t) k.text (ap₂ line_text k.numbered e ∙ sym (one_line (line_behind first (answers (view s₀) k.commands)) a))
+      ∙ append_assoc old (lines_text first (answers (view s₀) k.commands)) (lines_text (line_behind first (answers (view s₀) k.commands)) (a ∷ []))
+      ∙ ap (λ (t : List ℕ). old ++ t) (sym (lines_both first (answers (view s₀) k.commands) (a ∷ [])))
 
   pub feed_next : (x : Next) (b m : ℕ) → x ≡ next_at l at → x ≡ N.Whole b m → (c : Command) (a : Answer) (s' : Store) (r : Reported) (new : List ℕ) →
-      c ≡ command_at b l (at + 1) → ◌≡◌ {A = Answered} (record { answer = a; store = s' }) (step s c) → r ≡ reported a → new ≡ out ++ line_text line r →
-      Feeding l s₀ from first old s' m (next_line line) new
+      c ≡ command_at b l (at + 1) → Stepped s c s' a → r ≡ reported a → new ≡ out ++ line_text line r →
+      Feeding l s₀ first old s' m (next_line line) new
   feed_next x b m q e c a s' r new f t p g =
-      let d : ◌≡◌ {A = Answered} (record { answer = a; store = s' }) (step s (command_at b l (at + 1))) = rw f at t in
+      let here : Command = command_at b l (at + 1) in
+      let d : Stepped s here s' a = subst (λ (y : Command). Stepped s y s' a) f t in
+      let told : answers (view s₀) (k.commands ++ here ∷ []) ≡ answers (view s₀) k.commands ++ a ∷ [] =
+      answers_both (view s₀) k.commands (here ∷ []) ∙ ap (λ (y : Answer). answers (view s₀) k.commands ++ y ∷ []) (ap (λ (y : StoreRows). (step y here).answer) (sym k.ran) ∙ sym d.answer) in
       record {
-        commands = k.commands ++ command_at b l (at + 1) ∷ [];
-        ran =
-            ap (λ (t : Answered). t.store) (d ∙ sym (entry-step s (command_at b l (at + 1)) k.sounds))
-            ∙ ap (λ (t : Store). (entry t (command_at b l (at + 1))).store) k.ran ∙ sym (run_both s₀ k.commands (command_at b l (at + 1) ∷ []));
-        first_ones =
-            k.first_ones ∙ ap (λ (t : Reading). k.commands ++ t.commands) (read_whole l at b m (sym q ∙ e))
-            ∙ sym (append_assoc k.commands (command_at b l (at + 1) ∷ []) (read_from l m).commands);
-        done = k.done ++ a ∷ [];
-        split =
-            k.split ∙ ap (λ (t : Reading). k.done ++ tape_answers s t) (read_whole l at b m (sym q ∙ e))
-            ∙ ap (λ (t : Answered). k.done ++ (t.answer ∷ tape_answers t.store (read_from l m))) (entry-step s (command_at b l (at + 1)) k.sounds ∙ sym d)
-            ∙ sym (append_assoc k.done (a ∷ []) (tape_answers s' (read_from l m)));
-        store =
-            k.store ∙ ap (λ (t : Reading). run s t.commands) (read_whole l at b m (sym q ∙ e))
-            ∙ ap (λ (t : Answered). run t.store (read_from l m).commands) (entry-step s (command_at b l (at + 1)) k.sounds ∙ sym d);
-        text = line_more a r new p g;
-        numbered = ap next_line k.numbered ∙ behind_more first k.done a;
-        sounds = subst (λ (t : Answered). sound t.store ≡ true) (sym d) (step-sound s (command_at b l (at + 1)) k.sounds);
+        commands = k.commands ++ here ∷ [];
+        stand = stands_last k.stand (sym q ∙ e);
+        ran = d.rows ∙ ap (λ (y : StoreRows). (step y here).rows) k.ran ∙ sym (run_both (view s₀) k.commands (here ∷ []));
+        text = line_more a r new p g ∙ ap (λ (y : List Answer). old ++ lines_text first y) (sym told);
+        numbered =
+            ap next_line k.numbered ∙ sym (one_behind (line_behind first (answers (view s₀) k.commands)) a) ∙ sym (behind_both first (answers (view s₀) k.commands) (a ∷ []))
+            ∙ ap (line_behind first) (sym told);
+        sounds = d.sounds;
         inside = (whole l at b m (sym q ∙ e)).fits;
       }
 
 -- ---- the ways out: s is the store, c what the code gives
 
-module _ (l : List ℕ) (s₀ : Store) (from first : ℕ) (old : List ℕ) (s : Store) (at line room : ℕ) (out : List ℕ)
-    (k : Feeding l s₀ from first old s at line out) (c : Chunk) where
+module _ (l : List ℕ) (s₀ : Store) (first : ℕ) (old : List ℕ) (s : Store) (at line room : ℕ) (out : List ℕ)
+    (k : Feeding l s₀ first old s at line out) (c : Chunk) where
   abbrev Left : Chunk → List ℕ → Type 0
-  Left x new = Fed room l s₀ from first old x s new
+  Left x new = Fed room l s₀ first old x s new
 
   abbrev stand : Pause → Chunk
   stand p = record { at = at; line = line; pause = p }
+
+  -- no more was written
+  silent : out ≡ old ++ lines_text first (answers (view s₀) k.commands ++ [])
+  silent = k.text ∙ ap (λ (y : List Answer). old ++ lines_text first y) (sym (append-nil (answers (view s₀) k.commands)))
 
   -- the output is full
   pub feed_full : c ≡ stand P.Full → room - length out < line_room → length out ≤ room → Left c out
@@ -128,71 +123,61 @@ module _ (l : List ℕ) (s₀ : Store) (from first : ℕ) (old : List ℕ) (s : 
       subst (λ (x : Chunk). Left x out) (sym f)
       (record {
         commands = k.commands;
+        stand = k.stand;
         ran = k.ran;
-        first_ones = k.first_ones;
-        done = k.done;
-        split = k.split;
-        store = k.store;
-        text = k.text;
-        line = λ e. k.numbered;
+        text = silent;
+        line = k.numbered;
         sounds = k.sounds;
         inside = k.inside;
         room_left = λ e. omega arith;
         all = λ e. absurd (never true refl e);
-        byte = 0;
-        stops = λ e. absurd (never false e refl);
+        stops = λ e. absurd (never true refl e);
       })
 
-  -- no whole command is left
-  none_left : c ≡ stand P.Short → (read_from l at).commands ≡ [] → Left c out
-  none_left f q =
+  -- no whole command is left, and no byte that is none
+  none_left : c ≡ stand P.Short → is_whole (next_at l at) ≡ false → is_unknown (next_at l at) ≡ false → Left c out
+  none_left f q u =
       subst (λ (x : Chunk). Left x out) (sym f)
       (record {
         commands = k.commands;
+        stand = k.stand;
         ran = k.ran;
-        first_ones = k.first_ones;
-        done = k.done;
-        split = k.split;
-        store = k.store;
-        text = k.text;
-        line = λ e. k.numbered;
+        text = silent;
+        line = k.numbered;
         sounds = k.sounds;
         inside = k.inside;
         room_left = λ e. absurd (never false e refl);
         all = λ e. q;
-        byte = 0;
-        stops = λ e. absurd (never false e refl);
+        stops = λ e. sym u;
       })
 
   pub feed_over : c ≡ stand P.Short → length l ≤ at → Left c out
-  feed_over f j = none_left f (ap (λ (r : Reading). r.commands) (read_end l at (sym (next_end l at j))))
+  feed_over f j = let z = next_end l at j in none_left f (rw (← z)) (rw (← z))
 
   module _ (x : Next) (q : x ≡ next_at l at) where
     pub feed_cut : c ≡ stand P.Short → (b : ℕ) → x ≡ N.Cut b → Left c out
-    feed_cut f b e = none_left f (ap (λ (r : Reading). r.commands) (read_cut l at b (sym q ∙ e)))
+    feed_cut f b e = let z = sym q ∙ e in none_left f (rw z) (rw z)
 
     pub feed_end : c ≡ stand P.Short → x ≡ N.End → Left c out
-    feed_end f e = none_left f (ap (λ (r : Reading). r.commands) (read_end l at (sym q ∙ e)))
+    feed_end f e = let z = sym q ∙ e in none_left f (rw z) (rw z)
 
     pub feed_unknown : (b : ℕ) (r : Reported) (new : List ℕ) → c ≡ stand P.Stopped → x ≡ N.Unknown b → r ≡ reported (A.BadTape F.Unknown b) → new ≡ out ++ line_text line r → Left c new
     feed_unknown b r new f e p a =
-        let w = read_unknown l at b (sym q ∙ e) in
+        let z = sym q ∙ e in
         subst (λ (x : Chunk). Left x new) (sym f)
         (record {
           commands = k.commands;
+          stand = k.stand;
           ran = k.ran;
-          first_ones = k.first_ones;
-          done = k.done ++ A.BadTape F.Unknown b ∷ [];
-          split = k.split ∙ ap (λ (y : Reading). k.done ++ tape_answers s y) w ∙ sym (append-nil (k.done ++ A.BadTape F.Unknown b ∷ []));
-          store = k.store;
-          text = line_more l s₀ from first old s at line out k (A.BadTape F.Unknown b) r new p a;
-          line = λ e. absurd (never true refl e);
+          text =
+              line_more l s₀ first old s at line out k (A.BadTape F.Unknown b) r new p a
+              ∙ ap (λ (y : Next). old ++ lines_text first (answers (view s₀) k.commands ++ stop_of y)) (sym z);
+          line = k.numbered;
           sounds = k.sounds;
           inside = k.inside;
           room_left = λ e. absurd (never false e refl);
-          all = λ e. ap (λ (y : Reading). y.commands) w;
-          byte = b;
-          stops = λ z. sym q ∙ e;
+          all = λ e. rw z;
+          stops = λ e. rw z;
         })
 
 -- for `using` on `run_chunk`: what its steps ask for, beside the laws of each way out

@@ -1,13 +1,15 @@
 -- A chunk of the tape: what was run of it, and the lines of its answers. Assumes nothing.
-use Rattle.std.specs.Prelude.{◌≡◌, ℕ, Bool, ◌+◌, ◌%◌, ◌^◌, ◌<◌, ◌≤◌, true, false, cond, List, [], ◌∷◌, ◌++◌, length}
+use Rattle.std.specs.Prelude.{◌≡◌, ℕ, Bool, ◌+◌, ◌%◌, ◌^◌, ◌<◌, ◌≤◌, true, false, List, [], ◌∷◌, ◌++◌, length}
 use Rattle.lines.specs.Lines.{line_text}
 use Rattle.metadata.specs.Answers.{reported}
 use Rattle.metadata.specs.declared.Command.{Command}
-use Rattle.metadata.specs.Sound.{sound, run}
+use Rattle.metadata.specs.Model.{run, answers}
+use Rattle.metadata.specs.Stored.{view, sound}
 use Rattle.metadata.specs.declared.Answer.{Answer}
 use Rattle.metadata.specs.declared.Store.{Store}
-use Rattle.reading.specs.Reader.{read_from, tape_answers, next_at}
-use Rattle.reading.specs.declared.Next.TheVariants as N
+use Rattle.reading.specs.Places.{Stands, stop_of, is_whole, is_unknown}
+use Rattle.reading.specs.Reader.{next_at}
+use Rattle.reading.specs.declared.Next.{Next}
 use Rattle.chunks.specs.declared.Chunk.{Chunk}
 use Rattle.chunks.specs.declared.Pause.{Pause}
 use Rattle.chunks.specs.declared.Pause.TheVariants as P
@@ -42,26 +44,24 @@ is_full P.Full = true
 is_full P.Stopped = false
 is_full P.Short = false
 
--- commands lead from the one store to the other
-pub record Reached (s s' : Store) : Type 0 where
-  pub commands : List Command
-  pub ran : s' ≡ run s commands
+-- The answer that a chunk writes behind those of its commands, by why it stopped and what stands there: a byte that is no command is said, a command cut short is not, since more may follow.
+abbrev pub last_of : Pause → Next → List Answer
+last_of P.Full x = []
+last_of P.Stopped x = stop_of x
+last_of P.Short x = []
 
--- A chunk l was run from a place on, on a store s, its lines put behind what stood in a text with this room; s' is the store that is left.
--- `commands` were run, the first that stand there; `done` are the answers that were written, and those of the commands left, on the store left, are behind them. A tape stops at a `byte` that is no command.
-pub record Fed (room : ℕ) (l : List ℕ) (s : Store) (from first : ℕ) (old : List ℕ) (c : Chunk) (s' : Store) (new : List ℕ) : Type 0 where
+-- A chunk l was run on a store s, its lines put behind what stood in a text with this room; s' is the store that is left: its rows are those that the commands leave, and it is sound.
+pub record Fed (room : ℕ) (l : List ℕ) (s : Store) (first : ℕ) (old : List ℕ) (c : Chunk) (s' : Store) (new : List ℕ) : Type 0 where
+  -- which were run: the first that stand there, and `at` is the place behind the last
   pub commands : List Command
-  pub ran : s' ≡ run s commands
-  pub first_ones : (read_from l from).commands ≡ commands ++ (read_from l c.at).commands
-  pub done : List Answer
-  pub split : tape_answers s (read_from l from) ≡ done ++ cond (is_stopped c.pause) [] (tape_answers s' (read_from l c.at))
-  pub store : run s (read_from l from).commands ≡ run s' (read_from l c.at).commands
-  pub text : new ≡ old ++ lines_text first done
-  pub line : is_stopped c.pause ≡ false → c.line ≡ line_behind first done
+  pub stand : Stands l 0 commands c.at
+  pub ran : view s' ≡ run (view s) commands
+  -- what is written is their lines, and that of a byte that is no command where it stops at one
+  pub text : new ≡ old ++ lines_text first (answers (view s) commands ++ last_of c.pause (next_at l c.at))
+  pub line : c.line ≡ line_behind first (answers (view s) commands)
   pub sounds : sound s' ≡ true
   pub inside : c.at ≤ length l
-  -- it leaves a whole command only where a line has no room
+  -- it leaves a whole command only where a line has no room, and stops only at a byte that is no command
   pub room_left : is_full c.pause ≡ true → room < length new + line_room
-  pub all : is_full c.pause ≡ false → (read_from l c.at).commands ≡ []
-  pub byte : ℕ
-  pub stops : is_stopped c.pause ≡ true → next_at l c.at ≡ N.Unknown byte
+  pub all : is_full c.pause ≡ false → is_whole (next_at l c.at) ≡ false
+  pub stops : is_full c.pause ≡ false → is_stopped c.pause ≡ is_unknown (next_at l c.at)

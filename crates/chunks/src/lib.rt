@@ -2,9 +2,9 @@
 
 // A chunk of the tape: its whole commands run, a line for each answer in a lent slice.
 ghost use Rattle.chunks.specs.Chunks.{Fed};
-ghost use Rattle.metadata.specs.Sound.{sound};
+ghost use Rattle.metadata.specs.Stored.{sound};
 ghost use Rattle.chunks.specs.declared.Pause.TheVariants.{Short};
-ghost use Rattle.std.specs.Prelude.{◌≡◌, ◌≤◌, true, length};
+ghost use Rattle.std.specs.Prelude.{◌≡◌, true};
 
 use arrayvec::ArrayString;
 use lines::{LINE_ROOM, put_line};
@@ -39,20 +39,19 @@ fn short(at: usize, line: u64) -> Chunk
     }
 }
 
-// Inner: the program shows that the store is sound, and that the place is inside. Runs the whole commands of a chunk while a line has room:
+// Inner: the program shows that the store is sound. Runs the whole commands of a chunk while a line has room:
 // a walk as `reading::count_lines` has it, with more ways out.
 #[tactic(auto, using(crate::proofs::Feeding::feeding))]
 pub fn run_chunk<const N: usize>(
     store: &mut Store,
     chunk: &[u8],
-    from: usize,
     first: u64,
     out: &mut ArrayString<N>,
 ) -> Chunk
-    requires { (sound store.old ≡ true) × (from ≤ length chunk.now) }
-    ensures { Fed N chunk.now store.old from first out.old.bytes result store.new out.new.bytes }
+    requires { sound store.old ≡ true }
+    ensures { Fed N chunk.now store.old first out.old.bytes result store.new out.new.bytes }
 {
-    let mut at = from;
+    let mut at = 0;
     // The line of the next answer. The loop goes over places of the chunk and no list, so `enumerate` has nothing to number.
     let mut line = first;
     while at < chunk.len() {

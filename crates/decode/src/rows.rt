@@ -3,12 +3,13 @@ ghost use Rattle.decode.specs.Decode.{node_at, tablet_at, replica_at, placement_
 ghost use Rattle.metadata.specs.Rooms.{replica_room, table_room};
 ghost use Rattle.std.specs.Prelude.{◌≡◌, ◌+◌, ◌*◌, ◌≤◌, length, take};
 
-use crate::{number4, number8, optional_at, text_at};
+use crate::{optional_at, text_at};
 use metadata::{
     DesiredReplica, DesiredReplicaPlacement, NodeDescriptor, NodeId, PartitionSpec,
     PlacementPolicy, REPLICA_ROOM, RaftGroupId, ReplicaId, RetiredReplicaLifetime, TABLE_ROOM,
     TableId, TableRow, TabletDescriptor, TabletId,
 };
+use numbers::{number4, number8};
 use std::array;
 use table::Row;
 

@@ -6,7 +6,7 @@ use lib.ListN.{length-append}
 use Rattle.std.proofs.lemmas.List.{length-map}
 use Rattle.dump.specs.Dump.{dump_lines, dump_text, table_line_in}
 use Rattle.metadata.specs.Labels.{select_initial_placement}
-use Rattle.metadata.specs.Model.{view_nodes, view_tables, view_tablets, view_placements, view_retirements}
+use Rattle.metadata.specs.Stored.{view_nodes, view_tables, view_tablets, view_placements, view_retirements}
 use Rattle.metadata.specs.declared.Store.{Store}
 use Rattle.row_lines.specs.PlacementLines.{placement_line}
 use Rattle.row_lines.specs.RowLines.{node_line, tablet_line, retired_line}
@@ -32,15 +32,3 @@ pub dump_text_is : (s : Store) →
     ++ pick_line (select_initial_placement (view_nodes s.directory.nodes))
 unfolding dump_lines
 dump_text_is s = simp (concat-append, concat-map, last_text, append_assoc)
-
--- how many lines: one for each row, and four
-pub lines_are : (s : Store) →
-    length (dump_lines s)
-    ≡ length (view_nodes s.directory.nodes)
-    + length (view_tables s.catalog.tables)
-    + length (view_tablets s.catalog.tablets)
-    + length (view_placements s.catalog.placements)
-    + length (view_retirements s.catalog.retirements)
-    + 4
-unfolding dump_lines
-lines_are s = simp (length-append, length-map) (omega arith)

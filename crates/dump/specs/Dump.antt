@@ -6,7 +6,7 @@ use Rattle.row_lines.specs.RowLines.{node_line, table_line, tablet_line, retired
 use Rattle.row_lines.specs.PlacementLines.{placement_line}
 use Rattle.row_lines.specs.StoreLines.{name_line, marks_line, next_line, pick_line}
 use Rattle.metadata.specs.Labels.{select_initial_placement}
-use Rattle.metadata.specs.Model.{view_nodes, view_tables, view_tablets, view_placements, view_retirements}
+use Rattle.metadata.specs.Stored.{view_nodes, view_tables, view_tablets, view_placements, view_retirements}
 use Rattle.metadata.specs.Tablets.{is_complete}
 use Rattle.metadata.specs.declared.TableRow.{TableRow}
 use Rattle.metadata.specs.declared.Store.{Store}

@@ -1,17 +1,19 @@
 #![tactic(auto)]
 
-// The final tables and marks, as text and on standard output.
-ghost use Rattle.std.specs.Prelude.{◌≡◌, [], ◌+◌, ◌≤◌, ◌++◌, length};
+// The final tables and marks, as text and on a writer.
+ghost use Rattle.std.specs.Prelude.{◌≡◌, [], ◌+◌, ◌≤◌, ◌++◌};
+ghost use Rattle.printing.specs.Sent.{Sent};
 ghost use Rattle.std.specs.List.{flat_map};
 ghost use Rattle.arrayvec.specs.ArrayString.{array_string_len};
-ghost use Rattle.metadata.specs.Model.{view_tables};
-ghost use Rattle.dump.specs.Dump.{table_line_in, dump_lines, dump_text};
+ghost use Rattle.metadata.specs.Stored.{view_tables};
+ghost use Rattle.dump.specs.Dump.{table_line_in, dump_text};
 
 use choice::select_initial_placement;
 use metadata::Store;
 use printing::emit;
 use row_lines::{PAGE_ROOM, Page, put_each, put_marks, put_name, put_next, put_pick, put_table};
-use std::rt::Stdout;
+use std::io;
+use std::io::Write;
 use tablets::is_complete;
 
 // The tables' lines: what each says of completeness is counted.
@@ -46,35 +48,11 @@ pub fn put_dump(out: &mut Page, s: &Store)
     put_pick(out, &select_initial_placement(nodes));
 }
 
-// How many lines a dump has, and how many bytes.
-#[derive(Clone, Copy, PartialEq, Eq, Debug)]
-pub struct Dumped {
-    pub lines: usize,
-    pub bytes: usize,
-}
-
-// One for each row, the name's, and the last three.
-#[tactic(auto, using(crate::proofs::Text::lines_are))]
-pub fn line_count(s: &Store) -> usize
-    ensures { result ≡ length (dump_lines s.now) }
-{
-    let nodes = s.directory.nodes.used().len();
-    let tables = s.catalog.tables.used().len();
-    let tablets = s.catalog.tablets.used().len();
-    let placements = s.catalog.placements.used().len();
-    let retirements = s.catalog.retirements.used().len();
-    nodes + tables + tablets + placements + retirements + 4
-}
-
-// The final tables and marks on standard output, and how much that was to be.
-pub fn dump_store(to: Stdout, s: &Store) -> Dumped
-    ensures lines { result.lines ≡ length (dump_lines s.now) }
-    ensures bytes { result.bytes ≡ length (dump_text s.now) }
+// The final tables and marks on a writer.
+pub fn dump_store<W: Write>(to: &mut W, s: &Store) -> io::Result<()>
+    ensures { Sent (W.contents to.old) (W.contents to.new) (dump_text s.now) result }
 {
     let mut page = Page::new();
     put_dump(&mut page, s);
-    Dumped {
-        lines: line_count(s),
-        bytes: emit(to, page.as_bytes()),
-    }
+    emit(to, page.as_bytes())
 }

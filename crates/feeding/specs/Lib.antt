@@ -1,3 +1,3 @@
 -- The definitions that the contracts cite.
-pub mod Carried
-pub mod Told
+pub mod Feeding
+pub mod Whole

@@ -1,18 +1,24 @@
-#![tactic(auto, using(crate::proofs::Fed::turning))]
+#![tactic(auto)]
 
-// A tape from standard input, run as it is read: never more than a buffer of it is held. The lines go to standard output.
-ghost use Rattle.chunks.specs.Chunks.{Reached};
-ghost use Rattle.feeding.specs.Carried.{Carried};
-ghost use Rattle.metadata.specs.Sound.{sound};
-ghost use Rattle.std.specs.Prelude.{◌≡◌, true, ◌≤◌, IfSome};
+// A tape, run as it is read: never more than a buffer of it is held. Its lines go to a writer.
+ghost use Rattle.chunks.specs.Chunks.{lines_text};
+ghost use Rattle.feeding.specs.Feeding.{end_of, Over, Broken, Turned};
+ghost use Rattle.feeding.specs.Whole.{Ran, Ended, Beginning, OpeningRead};
+ghost use Rattle.input.specs.Filled.{hand, rest};
+ghost use Rattle.metadata.specs.Stored.{sound};
+ghost use Rattle.printing.specs.Sent.{Sent};
+ghost use Rattle.reading.specs.Places.{stop_of, is_unknown};
+ghost use Rattle.reading.specs.Reader.{next_at};
+ghost use Rattle.std.specs.Prelude.{◌≡◌, true, false, ◌≤◌, IfOk, IfSome, OnErr};
 
 use arrayvec::ArrayString;
 use chunks::{Pause, run_chunk};
 use input::{BUFFER_SIZE, Buffer};
-use metadata::{Answer, Store, TapeFault};
+use metadata::{Answer, Store, TABLE_ROOM, TapeFault};
 use printing::{emit, print_line};
-use reading::{Next, body_at, next_at};
-use std::rt::{Stdin, Stdout};
+use reading::{HEAD, Next, body_at, next_at, open_tape};
+use std::io;
+use std::io::{ErrorKind, Read, Write};
 
 // Where the run stands: the place of the next command among the bytes at hand, and its line.
 #[derive(Clone, Copy)]
@@ -21,82 +27,148 @@ pub struct Place {
     pub line: u64,
 }
 
+// How a tape ended: all of it was run, or its last answer is 40.
+#[derive(Clone, Copy, PartialEq, Eq, Debug)]
+pub enum End {
+    Whole,
+    Stopped,
+}
+
+// What a turn leaves: where the run goes on, or how the tape ended.
+#[derive(Clone, Copy)]
+enum Progress {
+    On(Place),
+    Over(End),
+}
+
+// What failed.
+#[derive(Clone, Copy, Debug)]
+pub enum Failure {
+    Input(io::Error),
+    Output(io::Error),
+}
+
 // The input ended: a command that is not whole is cut short.
-fn finish(to: Stdout, left: &[u8], line: u64) {
-    if let Next::Cut(b) = next_at(left, 0) {
-        print_line(to, line, Answer::BadTape(TapeFault::Cut, b));
-    }
-}
-
-// More of the input is read behind what is left from a place on: where that stands then, none where the input ended.
-#[tactic(auto, using(crate::proofs::Fed::carried))]
-fn read_on(input: Stdin, buffer: &mut Buffer, at: usize) -> Option<usize>
-    requires { at ≤ buffer.old.have }
-    ensures { IfSome result (λ to. Carried at to buffer.old buffer.new) }
+#[tactic(auto, using(crate::proofs::Finishing::finishing))]
+fn finish<W: Write>(out: &mut W, left: &[u8], line: u64) -> io::Result<End>
+    requires { is_unknown (next_at left.now 0) ≡ false }
+    ensures sent { Sent (W.contents out.old) (W.contents out.new) (lines_text line (stop_of (next_at left.now 0))) result }
+    ensures how { IfOk result (λ how. how ≡ end_of (next_at left.now 0)) }
 {
-    if buffer.refill(input, at) == 0 {
-        return None;
+    match next_at(left, 0) {
+        Next::Cut(b) => {
+            print_line(out, line, Answer::BadTape(TapeFault::Cut, b))?;
+            Ok(End::Stopped)
+        }
+        _ => Ok(End::Whole),
     }
-    Some(0)
 }
 
-// The commands at hand are run and their lines written; where the run stands then, none where all is done.
-// `input`, `to`, `store` and `buffer` are handles and what is lent for the whole run: a struct of them would be taken apart again in each function.
-#[tactic(auto, using(crate::proofs::Fed::turning, crate::proofs::Fed::carried_inside))]
-fn turn(
-    input: Stdin,
-    to: Stdout,
+// The commands at hand are run and their lines written; where none is left, what has arrived is read.
+// `input`, `out`, `store` and `buffer` are what is lent for the whole run: a struct of them would be taken apart again in each function.
+fn turn<R: Read, W: Write>(
+    input: &mut R,
+    out: &mut W,
     store: &mut Store,
     buffer: &mut Buffer,
     from: Place,
-) -> Option<Place>
+) -> Result<Progress, Failure>
     requires { (sound store.old ≡ true) × (from.at ≤ buffer.old.have) }
-    ensures sounds { sound store.new ≡ true }
-    ensures reached { Reached store.old store.new }
-    ensures inside { IfSome result (λ p. p.at ≤ buffer.new.have) }
+    ensures ok { IfOk result (Turned (record { left = rest buffer.old from.at; store = store.old; line = from.line; unread = R.remaining input.old; held = W.contents out.old }) buffer.new store.new (R.remaining input.new) (W.contents out.new)) }
+    ensures err { OnErr result (Broken (record { left = rest buffer.old from.at; store = store.old; line = from.line; unread = R.remaining input.old; held = W.contents out.old }) store.new (R.remaining input.new) (W.contents out.new)) }
 {
     let mut lines = ArrayString::<BUFFER_SIZE>::new();
-    let chunk = run_chunk(store, buffer.at_hand(), from.at, from.line, &mut lines);
-    emit(to, lines.as_bytes());
-    let at = chunk.at;
+    let chunk = run_chunk(store, &buffer.at_hand()[from.at..], from.line, &mut lines);
+    if let Err(e) = emit(out, lines.as_bytes()) {
+        return Err(Failure::Output(e));
+    }
+    let at = from.at + chunk.at;
     let line = chunk.line;
     match chunk.pause {
-        Pause::Stopped => None,
-        Pause::Full => Some(Place { at, line }),
-        Pause::Short => {
-            let Some(at) = read_on(input, buffer, at) else {
-                finish(to, buffer.at_hand(), line);
-                return None;
-            };
-            Some(Place { at, line })
-        }
+        Pause::Stopped => Ok(Progress::Over(End::Stopped)),
+        Pause::Full => Ok(Progress::On(Place { at, line })),
+        Pause::Short => match buffer.refill(input, at) {
+            Err(e) => Err(Failure::Input(e)),
+            Ok(0) => match finish(out, buffer.at_hand(), line) {
+                Err(e) => Err(Failure::Output(e)),
+                Ok(how) => Ok(Progress::Over(how)),
+            },
+            Ok(_) => Ok(Progress::On(Place { at: 0, line })),
+        },
     }
 }
 
 // A proved loop has to end, and nothing says that an input does: the loop has more turns than any run uses up.
-fn feed_all(input: Stdin, to: Stdout, store: &mut Store, buffer: &mut Buffer, from: Place)
+#[tactic(auto, using(crate::proofs::Fed::feeding))]
+fn feed_all<R: Read, W: Write>(
+    input: &mut R,
+    out: &mut W,
+    store: &mut Store,
+    buffer: &mut Buffer,
+    from: Place,
+) -> Result<End, Failure>
     requires { (sound store.old ≡ true) × (from.at ≤ buffer.old.have) }
-    ensures sounds { sound store.new ≡ true }
-    ensures reached { Reached store.old store.new }
+    ensures ok { IfOk result (λ how. Over (record { left = rest buffer.old from.at; store = store.old; line = from.line; unread = R.remaining input.old; held = W.contents out.old }) how store.new (R.remaining input.new) (W.contents out.new) true) }
+    ensures err { OnErr result (Broken (record { left = rest buffer.old from.at; store = store.old; line = from.line; unread = R.remaining input.old; held = W.contents out.old }) store.new (R.remaining input.new) (W.contents out.new)) }
 {
     let mut place = from;
     for _ in 0..u64::MAX {
-        let Some(next) = turn(input, to, store, buffer, place) else {
-            return;
-        };
-        place = next;
+        match turn(input, out, store, buffer, place) {
+            Ok(Progress::On(next)) => place = next,
+            Ok(Progress::Over(how)) => return Ok(how),
+            Err(e) => return Err(e),
+        }
     }
+    Err(Failure::Input(io::Error::from(ErrorKind::TimedOut)))
 }
 
-// The commands behind an accepted opening.
-pub fn run_tape(input: Stdin, to: Stdout, store: &mut Store, buffer: &mut Buffer)
-    requires { sound store.old ≡ true }
-    ensures sounds { sound store.new ≡ true }
-    ensures reached { Reached store.old store.new }
+// What the run of a tape leaves: the store, and how the tape ended.
+#[derive(Clone, Copy)]
+pub struct Left {
+    pub store: Store,
+    pub end: End,
+}
+
+// The opening is read whole before it is looked at. More tables than there is room for are refused by the head alone.
+#[tactic(auto, using(crate::proofs::Opened::opening))]
+fn read_opening<R: Read>(input: &mut R, buffer: &mut Buffer) -> io::Result<()>
+    requires { buffer.old.have ≡ 0 }
+    ensures { OpeningRead (hand buffer.new) (R.remaining input.old) (R.remaining input.new) result }
 {
-    let at = body_at(buffer.at_hand());
-    if buffer.have < at {
-        return;
+    buffer.fill_to(input, HEAD)?;
+    let head = buffer.at_hand();
+    if head.len() < HEAD || TABLE_ROOM < usize::from(head[0]) {
+        return Ok(());
     }
-    feed_all(input, to, store, buffer, Place { at, line: 1 });
+    let body = body_at(head);
+    buffer.fill_to(input, body)
+}
+
+// The tape on an input, its lines on an output. After a failure nothing more is run or written.
+#[tactic(auto, using(crate::proofs::Opened::opened_inside, crate::proofs::Opened::opened_sound))]
+pub fn run_tape<R: Read, W: Write>(input: &mut R, out: &mut W) -> Result<Left, Failure>
+    ensures ran { IfOk result (λ r. Ran r.end r.store (R.remaining input.old) (R.remaining input.new) (W.contents out.old) (W.contents out.new)) }
+    ensures whole { IfOk result (λ r. IfSome (R.remaining input.old) (λ tape. Ended tape r.end r.store (W.contents out.old) (W.contents out.new))) }
+    ensures failed { OnErr result (IfSome (R.remaining input.old) (λ tape. Beginning tape (W.contents out.old) (W.contents out.new))) }
+{
+    let mut buffer = Buffer::new();
+    if let Err(e) = read_opening(input, &mut buffer) {
+        return Err(Failure::Input(e));
+    }
+    let opening = open_tape(buffer.at_hand());
+    let mut store = opening.store;
+    if !opening.answer.is_applied() {
+        return match print_line(out, 0, opening.answer) {
+            Err(e) => Err(Failure::Output(e)),
+            Ok(()) => Ok(Left {
+                store,
+                end: End::Stopped,
+            }),
+        };
+    }
+    let at = body_at(buffer.at_hand());
+    match feed_all(input, out, &mut store, &mut buffer, Place { at, line: 1 }) {
+        Err(e) => Err(e),
+        Ok(end) => Ok(Left { store, end }),
+    }
 }

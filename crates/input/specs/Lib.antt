@@ -1,2 +1,3 @@
--- The definitions that this crate adds to those of `metadata`. Assumes nothing.
+-- The definitions that the contracts cite. Assumes nothing.
 pub mod Buffers
+pub mod Filled

@@ -9,14 +9,15 @@ use Rattle.std.specs.Iterator.{YieldsThen}
 use Rattle.std.specs.Slice.Iter.{iter_rest}
 use Rattle.std.proofs.iter.Yields.{fronts}
 use Rattle.std.proofs.lemmas.Iterator.{YieldsList-from_slice}
-use Rattle.std.proofs.lemmas.Iterator.Search.{any_from_yields_List, position_from_yields_List, find_from_yields_List}
-use Rattle.std.specs.Prelude.{◌≡◌, ℕ, suc, ◌+◌, Bool, true, false, cond, ◌||◌, not, List, [], ◌∷◌, ltb, length, Option, Some, None, MatchOption, position}
-use Rattle.std.specs.List.{FoldsTo, find, list_any, position_or_len}
+use Rattle.std.proofs.lemmas.Iterator.Search.{any_from_yields_List, all_from_yields_List, position_from_yields_List, find_from_yields_List}
+use Rattle.std.specs.Prelude.{◌≡◌, ℕ, suc, ◌+◌, Bool, true, false, cond, ◌||◌, not, List, [], ◌∷◌, map, ltb, length, Option, Some, None, MatchOption, position}
+use Rattle.std.specs.List.{FoldsTo, find, list_any, list_all, position_or_len}
 use Rattle.std.specs.Option.{option_map}
-use Rattle.std.proofs.Common.{refl, sym, ◌∙◌, subst, arith, lt-ltb, le-ltb, ltb-true, ltb-false, add-zero, zero-add}
+use Rattle.std.proofs.Common.{refl, sym, ap, ◌∙◌, subst, arith, lt-ltb, le-ltb, ltb-true, ltb-false, add-zero, zero-add}
 use Rattle.laws.specs.Keyed.{Keyed, has, row}
 use Rattle.laws.specs.Rows.{find_from, find_index}
 use Rattle.laws.proofs.Lookups.{under}
+use Rattle.laws.proofs.Through.{first_map, option_map_map}
 
 module _ {A : Type 0} (p : A → Bool) where
   -- place n of len, counted from i; with no such place nothing
@@ -91,6 +92,15 @@ module _ {A F : Type 0} where
     pub has_from_any : (T : Keyed A) (k : T.Key) (l : List A) (r : Bool) → Stops g s u f (r ≡ false) (λ xs. r ≡ true) → iter_rest s ≡ l → Tells g f (under T k) → r ≡ has T k l
     has_from_any T k l r h e t = any_from_yields_List (under T k) u f r h (YieldsList-from_slice l e) t ∙ sym (has_any T k l)
 
+    pub any_from_any : (p : A → Bool) (l : List A) (r : Bool) → Stops g s u f (r ≡ false) (λ xs. r ≡ true) → iter_rest s ≡ l → Tells g f p → r ≡ list_any p l
+    any_from_any p l r h e t = any_from_yields_List p u f r h (YieldsList-from_slice l e) t
+
+    pub every_from_all : (p : A → Bool) (l : List A) (r : Bool)
+        → ((xs : List (Bor A)) × (o : Option (Bor A)) × (j : F) × YieldsThen fronts s xs o u × FoldsTo (λ k x q. Called g k (x, tt) true q) f xs j
+        × MatchOption o (r ≡ true) (λ x. (r ≡ false) × ((h : F) × Called g j (x, tt) false h)))
+        → iter_rest s ≡ l → Tells g f p → r ≡ list_all p l
+    every_from_all p l r h e t = all_from_yields_List p u f r h (YieldsList-from_slice l e) t
+
     pub place_from_position : (p : A → Bool) (l : List A) (r : Option ℕ) → Stops g s u f (r ≡ None) (λ xs. r ≡ Some (length xs)) → iter_rest s ≡ l → Tells g f p → r ≡ find_index p l
     place_from_position p l r h e t = position_from_yields_List p u f r h (YieldsList-from_slice l e) t ∙ position_is p l
 
@@ -99,3 +109,12 @@ module _ {A F : Type 0} where
       → iter_rest s ≡ l → ((x : Bor A) (b : Bool) (q : F) → CalledAt g f x b q → (q ≡ f) × (b ≡ under T k x.now))
       → MatchOption r (has T k l ≡ false) (λ x. (has T k l ≡ true) × (row T d k l ≡ x.now))
   row_from_find u f T d k l r h e t = row_found T k d (λ x. x.now) l r (find_from_yields_List (under T k) u f r h (YieldsList-from_slice l e) t)
+
+  -- the same, where f reads what the rows say
+  pub read_from_find : {B : Type 0} (f : A → B) {g : Mut F (Bor (Bor A) × ⊤) Bool} {s : Iter A} (u : Iter A) (c : F) (T : Keyed B) (d : B) (k : T.Key) (l : List A) (r : Option (Bor A))
+      → (xs : List (Bor A)) × (j : F) × YieldsThen fronts s xs r u × FoldsTo (λ p x q. CalledAt g p x false q) c xs j × MatchOption r ⊤ (λ x. (h : F) × CalledAt g j x true h)
+      → iter_rest s ≡ l → ((x : Bor A) (b : Bool) (q : F) → CalledAt g c x b q → (q ≡ c) × (b ≡ under T k (f x.now)))
+      → MatchOption r (has T k (map f l) ≡ false) (λ x. (has T k (map f l) ≡ true) × (row T d k (map f l) ≡ f x.now))
+  read_from_find f u c T d k l r h e t =
+      row_found T k d (λ x. f x.now) (map f l) r
+      (sym (option_map_map f (λ x. x.now) r) ∙ ap (option_map f) (find_from_yields_List (λ x. under T k (f x)) u c r h (YieldsList-from_slice l e) t) ∙ first_map f (under T k) l)

@@ -9,7 +9,6 @@ ghost use Rattle.lupinadze.specs.Linked.{run_result};
 pub const LUPINADZE_SHORT: u64 = 18446744073709551615;
 
 // How many answers a tape gets. The list for them needs four times as many numbers.
-#[tactic(auto, unfolding(tape::specs::Tape::ran))]
 #[unsafe(no_mangle)]
 pub extern "C" fn lupinadze_answers(tape: &[u8]) -> u64
     ensures { result ≡ length (outcome tape.now) }
@@ -21,7 +20,7 @@ pub extern "C" fn lupinadze_answers(tape: &[u8]) -> u64
 }
 
 // Runs a tape: four numbers for each answer go to the lent list, and how many answers there are is handed back. Too short a list: no number is written. What the list has then is said as `tape::run` says it.
-#[tactic(auto, unfolding(tape::specs::Tape::ran, crate::specs::Linked::run_result))]
+#[tactic(auto, unfolding(crate::specs::Linked::run_result))]
 #[unsafe(no_mangle)]
 pub extern "C" fn lupinadze_run(tape: &[u8], out: &mut [u64]) -> u64
     ensures result { result ≡ run_result tape.now (length out.old) }

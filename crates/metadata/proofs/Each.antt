@@ -1,9 +1,9 @@
 -- A check on each element in turn, as a loop: what is left of the list decides.
-use Rattle.std.specs.Prelude.{◌≡◌, ℕ, ◌+◌, ◌<◌, ◌≤◌, false, List, length, get_or, drop}
-use Rattle.std.proofs.Common.{refl, ◌∙◌, add-one}
+use Rattle.std.specs.Prelude.{◌≡◌, ℕ, ◌+◌, ◌<◌, ◌≤◌, false, List, [], ◌∷◌, map, length, get_or, drop}
+use Rattle.std.proofs.Common.{refl, ap, ◌∙◌, add-one}
 use lib.Seq.{drop-cons}
 use lib.ListN.{drop_of_length-le}
-use Rattle.metadata.specs.Answers.{is_applied, and_then, each}
+use Rattle.metadata.specs.Answers.{is_applied, and_then, ◌⊳◌, each}
 use Rattle.metadata.specs.declared.Answer.{Answer}
 use Rattle.metadata.specs.declared.Answer.TheVariants as A
 
@@ -26,6 +26,12 @@ module _ {X : Type 0} {f : X → Answer} {xs : List X} where
   pub each_end : {i : ℕ} → EachFrom f xs i → length xs ≤ i → each f xs ≡ A.Applied
   unfolding each
   each_end {i} h k = h.left ∙ rw (drop_of_length-le xs {i = i} k)
+
+-- a check of what g reads from each element
+pub each_map : {X Y : Type 0} (f : Y → Answer) (g : X → Y) (l : List X) → each (λ x. f (g x)) l ≡ each f (map g l)
+unfolding each
+each_map f g [] = refl
+each_map f g (x ∷ l) = ap (λ a. f (g x) ⊳ a) (each_map f g l)
 
 -- for `using` on a loop that asks a check of each row in turn: `expected_in` and `still_expected` (nodes), `judge_leaders` and `judge_kept_replicas` (placements), `judge_range` (tablets)
 pub ruleset each_rules = (each_start, each_next, each_stop, each_end)

@@ -2,6 +2,7 @@ pub mod AnswerLaws
 pub mod Guards
 pub mod AdmittedRows
 pub mod Soundness
+pub mod Retold
 pub mod Links
 pub mod Copies
 pub mod Epochs
@@ -9,8 +10,8 @@ pub mod Unretired
 pub mod Disjoint
 pub mod ZeroRows
 pub mod SoundTable
-pub mod Packed
-pub mod Retold
+pub mod SoundRows
+pub mod Stored
 pub mod Opened
 pub mod Theorem
 pub mod Trials

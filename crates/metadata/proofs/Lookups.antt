@@ -3,7 +3,8 @@
 use Rattle.std.specs.Prelude.{◌≡◌, ℕ, true, List}
 use Rattle.laws.specs.Keyed.{has, row}
 use Rattle.laws.proofs.KeyedLaws.{row_either}
-use Rattle.metadata.specs.Tables.{node_key, tablet_key, placement_key, node_of, tablet_of, placement_of, blank_node, blank_tablet, blank_placement, zero_node, zero_tablet, zero_placement}
+use Rattle.metadata.specs.Tables.{node_key, tablet_key, placement_key, node_of, tablet_of, placement_of, blank_node, blank_tablet, blank_placement}
+use Rattle.metadata.specs.Zeros.{zero_node, zero_tablet, zero_placement}
 use Rattle.metadata.specs.declared.DesiredReplicaPlacement.{DesiredReplicaPlacement}
 use Rattle.metadata.specs.declared.NodeDescriptor.{NodeDescriptor}
 use Rattle.metadata.specs.declared.TabletDescriptor.{TabletDescriptor}

@@ -4,28 +4,9 @@ use Rattle.laws.proofs.Packed.{Packed}
 use Rattle.table.specs.Tables.{sound_table}
 use Rattle.table.proofs.Sound.{sound_packed}
 use Rattle.metadata.specs.Rooms.{node_room, table_room, tablet_room, retirement_room}
-use Rattle.metadata.specs.Tables.{
-  Nodes,
-  Tables,
-  Tablets,
-  Placements,
-  Retirements,
-  node_key,
-  table_key,
-  tablet_key,
-  placement_key,
-  retirement_key,
-  is_zero_node,
-  is_zero_table,
-  is_zero_tablet,
-  is_zero_placement,
-  is_zero_retirement,
-  zero_node,
-  zero_table,
-  zero_tablet,
-  zero_placement,
-  zero_retirement,
-}
+use Rattle.metadata.specs.Stored.{Nodes, Tables, Tablets, Placements, Retirements}
+use Rattle.metadata.specs.Tables.{node_key, table_key, tablet_key, placement_key, retirement_key}
+use Rattle.metadata.specs.Zeros.{is_zero_node, is_zero_table, is_zero_tablet, is_zero_placement, is_zero_retirement, zero_node, zero_table, zero_tablet, zero_placement, zero_retirement}
 use Rattle.metadata.proofs.ZeroRows.{zero_node_lem, zero_table_lem, zero_tablet_lem, zero_placement_lem, zero_retirement_lem}
 
 -- One law for each table: each cites `sound_packed` at the key, the row of zeros and the room of its own.

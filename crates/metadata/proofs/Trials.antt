@@ -2,7 +2,7 @@
 use Rattle.text.specs.Texts as W
 use Prim.Native.Nat.{ℕ, ◌+◌, ◌-◌}
 use mathlib.Core.Path.{◌≡◌, refl}
-use mathlib.Core.Bool.{Bool, true, false, cond, ◌&&◌, beq}
+use mathlib.Core.Bool.{Bool, true, false, ◌&&◌, beq}
 use mathlib.Core.List.{List, [], ◌∷◌, ◌++◌}
 use lib.Dec.{eqb}
 use lib.ListN.{length, replicate}
@@ -10,12 +10,13 @@ use Rattle.laws.specs.Bytes.{eq_bytes}
 use Rattle.laws.specs.Lists.{tally, none_twice}
 use Rattle.laws.specs.Tests.{all_of}
 use Rattle.metadata.specs.Rooms.{name_width, label_width, replica_room}
-use Rattle.metadata.specs.Texts.{zero_key, no_label}
+use Rattle.metadata.specs.Texts.{zero_key, no_label, Name, OptionalLabel}
 use Rattle.text.specs.Texts.{fits, text_admitted, blank, same_text, is_zero_text, all_zero}
 use Rattle.text.specs.Ranges.{lex_leb, overlapb, later_start}
 use Rattle.metadata.specs.Labels.{new_label, distinct, regions, zones, racks, locality_gain, better, candidate, step_best, best_of, choose_from, choose, judge_picking}
-use Rattle.metadata.specs.Answers.{and_then, reported, report, is_applied, refuse, each}
-use Rattle.metadata.specs.Tables.{same_node_directory, same_node, same_partition, same_tablet, same_policy, same_placement, zero_replica}
+use Rattle.metadata.specs.Answers.{and_then, reported, report, refuse, each}
+use Rattle.metadata.specs.Tables.{same_node_directory, same_node, same_partition, same_tablet, same_policy, same_placement}
+use Rattle.metadata.specs.Zeros.{zero_replica}
 use Rattle.metadata.specs.Commands.{Command, naming, registering, lifecycle, tablet, placement, lowest, node_texts_admitted, partition_admitted, replicas_admitted, minima_admitted, leaders_admitted, class_blank}
 use Rattle.metadata.specs.Nodes.{
   judge_naming,
@@ -44,11 +45,9 @@ use Rattle.metadata.specs.Placements.{
   judge_new_placement,
   judge_placement,
 }
-use Rattle.metadata.specs.Model.{StoreRows, admission, decided, decide, apply}
+use Rattle.metadata.specs.Model.{StoreRows, admission, decided, decide, run}
 use Rattle.metadata.specs.Opening.{sorted_tables, starting_marks, empty_rows}
 use Rattle.metadata.specs.declared.Reported.{Reported}
-use Rattle.metadata.specs.Texts.{Name}
-use Rattle.metadata.specs.Texts.{OptionalLabel}
 use Rattle.metadata.specs.declared.NodeDescriptor.{NodeDescriptor}
 use Rattle.metadata.specs.declared.TabletDescriptor.{TabletDescriptor}
 use Rattle.metadata.specs.declared.DesiredReplica.{DesiredReplica}
@@ -127,15 +126,6 @@ retire group r epoch =
       removal_term = 1;
     }
 
--- ---- what follows what
-
-abbrev pub next : StoreRows → Command → StoreRows
-next s c = cond (is_applied (decide s c)) (apply s c) s
-
-abbrev pub after : StoreRows → List Command → StoreRows
-after s [] = s
-after s (c ∷ cs) = after (next s c) cs
-
 -- one table, number 1, of one tablet
 abbrev pub fresh : StoreRows
 fresh = let tables : List TableRow = record { table_id = record { 0 = 1 }; tablet_count = 1 } ∷ [] in empty_rows (sorted_tables tables) (starting_marks tables 5)
@@ -159,7 +149,7 @@ minima l = distinct (regions (choose l)) ∷ distinct (zones (choose l)) ∷ dis
 abbrev pub right : Trial → Bool
 right (ranges ls le rs re o s) = beq (overlapb ls le rs re) o && eq_bytes (later_start ls rs) s
 right (picks l a ns) = same_report (reported (judge_picking l)) a && eq_bytes (minima l) ns
-right (answers cs c a) = same_report (reported (decide (after fresh cs) c)) a
+right (answers cs c a) = same_report (reported (decide (run fresh cs) c)) a
 
 abbrev pub all_right : List Trial → Bool
 all_right [] = true

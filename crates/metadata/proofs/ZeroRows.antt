@@ -16,22 +16,8 @@ use Rattle.text.specs.declared.Optional.{Optional}
 use Rattle.text.specs.declared.Text.{Text}
 use Rattle.text.specs.Texts.{all_zero, is_zero_text, is_no_text, zero_text, no_text}
 use Rattle.metadata.specs.Rooms.{replica_room}
-use Rattle.metadata.specs.Tables.{
-  is_zero_replica,
-  is_zero_id,
-  is_zero_node,
-  is_zero_table,
-  is_zero_tablet,
-  is_zero_policy,
-  is_zero_placement,
-  is_zero_retirement,
-  zero_replica,
-  zero_node,
-  zero_table,
-  zero_tablet,
-  zero_placement,
-  zero_retirement,
-}
+use Rattle.metadata.specs.Tables.{is_zero_replica, is_zero_id}
+use Rattle.metadata.specs.Zeros.{is_zero_node, is_zero_table, is_zero_tablet, is_zero_policy, is_zero_placement, is_zero_retirement, zero_replica, zero_node, zero_table, zero_tablet, zero_placement, zero_retirement}
 use Rattle.metadata.specs.declared.NodeId.{NodeId}
 use Rattle.metadata.specs.declared.NodeDescriptor.{NodeDescriptor}
 use Rattle.metadata.specs.declared.TabletDescriptor.{TabletDescriptor}

@@ -6,30 +6,25 @@ use Rattle.metadata.specs.Texts.{key_text}
 use Rattle.text.specs.Ranges.{in_rangeb}
 use Rattle.metadata.specs.Tables.{node_key, tablet_key, node_of, tablet_of, desired}
 use Rattle.metadata.specs.Commands.{Command}
-use Rattle.metadata.specs.Tablets.{is_range, is_replica_retired}
-use Rattle.metadata.specs.Model.{view, view_nodes, view_tables, view_tablets, view_placements, view_retirements}
-use Rattle.metadata.specs.Sound.{sound}
-use Rattle.metadata.specs.History.{History, told, applied_placements}
+use Rattle.metadata.specs.Tablets.{is_range}
+use Rattle.metadata.specs.Model.{StoreRows}
+use Rattle.metadata.specs.Sound.{sound_rows}
+use Rattle.metadata.specs.History.{History, told, applied_placements, retired_in}
 use Rattle.metadata.specs.declared.Answer.{Answer}
 use Rattle.metadata.specs.declared.NodeDescriptor.{NodeDescriptor}
 use Rattle.metadata.specs.declared.TabletDescriptor.{TabletDescriptor}
 use Rattle.metadata.specs.declared.DesiredReplica.{DesiredReplica}
 use Rattle.metadata.specs.declared.DesiredReplicaPlacement.{DesiredReplicaPlacement}
-use Rattle.metadata.specs.declared.RetiredReplicaLifetime.{RetiredReplicaLifetime}
-use Rattle.metadata.specs.declared.Store.{Store}
 
 -- "name, tables and marks are exactly what the commands answered Applied say, row for row as in document 01's history"
-pub record Holds (s : Store) (h : History) : Type 0 where
-  pub name : s.directory.cluster_id ≡ h.name
-  pub nodes : view_nodes s.directory.nodes ≡ h.nodes
-  pub tables : view_tables s.catalog.tables ≡ h.tables
-  pub tablets : view_tablets s.catalog.tablets ≡ h.tablets
-  pub placements : view_placements s.catalog.placements ≡ h.placements
-  pub retirements : view_retirements s.catalog.retirements ≡ h.retirements
-  pub «table_mark» : s.catalog.marks.max_table_id ≡ h.«table_mark»
-  pub «tablet_mark» : s.catalog.marks.max_tablet_id ≡ h.«tablet_mark»
-  pub «group_mark» : s.catalog.marks.max_raft_group_id ≡ h.«group_mark»
-  pub «replica_mark» : s.catalog.marks.max_replica_id ≡ h.«replica_mark»
+pub record Holds (s : StoreRows) (h : History) : Type 0 where
+  pub name : s.directory.name ≡ h.name
+  pub nodes : s.directory.nodes ≡ h.nodes
+  pub tables : s.catalog.tables ≡ h.tables
+  pub tablets : s.catalog.tablets ≡ h.tablets
+  pub placements : s.catalog.placements ≡ h.placements
+  pub retirements : s.catalog.retirements ≡ h.retirements
+  pub marks : s.catalog.marks ≡ h.marks
 
 -- the copy stands on a registered node that is Active, Draining or Decommissioning
 pub record Stands (nodes : List NodeDescriptor) (r : DesiredReplica) : Type 0 where
@@ -37,9 +32,8 @@ pub record Stands (nodes : List NodeDescriptor) (r : DesiredReplica) : Type 0 wh
   pub serving : (node_of r.node_id.0 nodes).lifecycle ≤ 2
 
 -- the copy is not retired in its group, "its group the tablet's"
-abbrev pub Unretired : List TabletDescriptor → List RetiredReplicaLifetime → DesiredReplicaPlacement → DesiredReplica → Type 0
-Unretired tablets retirements p r =
-    is_replica_retired (tablet_of p.tablet_id.0 tablets).raft_group_id.0 r.replica_id.0 retirements ≡ false
+abbrev pub Unretired : History → List TabletDescriptor → DesiredReplicaPlacement → DesiredReplica → Type 0
+Unretired h tablets p r = retired_in h (tablet_of p.tablet_id.0 tablets).raft_group_id.0 r.replica_id.0 ≡ false
 
 -- the key lies in the range of the tablet
 abbrev pub lies_in : List ℕ → TabletDescriptor → Bool
@@ -51,14 +45,13 @@ Disjoint a b =
     is_range a ≡ true → is_range b ≡ true → a.table_id.0 ≡ b.table_id.0 → (key : List ℕ) → lies_in key a ≡ true → lies_in key b ≡ true → ⊥
 
 -- what holds of the store s after the commands cs, answered as rs, from the history h
-pub record Claims (h : History) (cs : List Command) (rs : List Answer) (s : Store) : Type 0 where
+pub record Claims (h : History) (cs : List Command) (rs : List Answer) (s : StoreRows) : Type 0 where
   pub rows : Holds s (told h cs rs)
-  -- the rest of each table is zero rows, and reason 12 is never given
-  pub sound : sound s ≡ true
-  pub epochs : All (λ (p : DesiredReplicaPlacement). p.configuration_epoch ≡ applied_placements p.tablet_id.0 cs rs) (view s).catalog.placements
+  -- so reason 12 is never given
+  pub sound : sound_rows s ≡ true
+  pub epochs : All (λ (p : DesiredReplicaPlacement). p.configuration_epoch ≡ applied_placements p.tablet_id.0 cs rs) s.catalog.placements
   -- every placement's tablet is there
-  pub placed : All (λ (p : DesiredReplicaPlacement). has tablet_key p.tablet_id.0 (view s).catalog.tablets ≡ true) (view s).catalog.placements
-  pub copies : All (λ (p : DesiredReplicaPlacement). All (Stands (view s).directory.nodes) (desired p)) (view s).catalog.placements
-  pub unretired :
-      All (λ (p : DesiredReplicaPlacement). All (Unretired (view s).catalog.tablets (view s).catalog.retirements p) (desired p)) (view s).catalog.placements
-  pub ranges : Apart Disjoint (view s).catalog.tablets
+  pub placed : All (λ (p : DesiredReplicaPlacement). has tablet_key p.tablet_id.0 s.catalog.tablets ≡ true) s.catalog.placements
+  pub copies : All (λ (p : DesiredReplicaPlacement). All (Stands s.directory.nodes) (desired p)) s.catalog.placements
+  pub unretired : All (λ (p : DesiredReplicaPlacement). All (Unretired (told h cs rs) s.catalog.tablets p) (desired p)) s.catalog.placements
+  pub ranges : Apart Disjoint s.catalog.tablets

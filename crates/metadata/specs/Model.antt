@@ -1,10 +1,9 @@
--- The model: what each command is answered and what an Applied one does, on the tables as lists of rows; and a step of the store. Assumes nothing.
-use Rattle.std.specs.Prelude.{ℕ, max, true, not, cond, ◌&&◌, List, eqb, take}
+-- The model: what each command is answered, what an Applied one does, and what a list of commands does, on the tables as lists of rows. Assumes nothing.
+use Rattle.std.specs.Prelude.{ℕ, max, true, not, cond, ◌&&◌, List, [], ◌∷◌, eqb}
 use Rattle.laws.specs.Keyed.{put}
-use Rattle.table.specs.Tables.{pack as pack_table}
 use Rattle.metadata.specs.Marks.{highest}
 use Rattle.metadata.specs.Answers.{is_applied, ◌⊳◌, refuse}
-use Rattle.metadata.specs.Tables.{tablet_key, placement_key, retirement_key, desired, zero_node, zero_table, zero_tablet, zero_placement, zero_retirement}
+use Rattle.metadata.specs.Tables.{tablet_key, placement_key, retirement_key, desired}
 use Rattle.metadata.specs.Commands.{Command, naming, registering, lifecycle, tablet, placement, retirement, picking, faults, lowest, needs_name}
 use Rattle.metadata.specs.Labels.{judge_picking}
 use Rattle.metadata.specs.Nodes.{judge_naming, judge_lifecycle, judge_registering, moved_nodes, registered_nodes}
@@ -12,7 +11,6 @@ use Rattle.metadata.specs.Tablets.{judge_tablet, judge_retirement}
 use Rattle.metadata.specs.Placements.{judge_placement}
 use Rattle.metadata.specs.declared.Answer.{Answer}
 use Rattle.metadata.specs.declared.Answer.TheVariants as A
-use Rattle.metadata.specs.declared.Answered.{Answered}
 use Rattle.metadata.specs.Texts.{OptionalName}
 use Rattle.metadata.specs.declared.NodeDescriptor.{NodeDescriptor}
 use Rattle.metadata.specs.declared.TabletDescriptor.{TabletDescriptor}
@@ -21,14 +19,6 @@ use Rattle.metadata.specs.declared.DesiredReplicaPlacement.{DesiredReplicaPlacem
 use Rattle.metadata.specs.declared.RetiredReplicaLifetime.{RetiredReplicaLifetime}
 use Rattle.metadata.specs.declared.TableRow.{TableRow}
 use Rattle.metadata.specs.declared.MetadataAllocatorState.{MetadataAllocatorState}
-use Rattle.metadata.specs.Tables.{Nodes}
-use Rattle.metadata.specs.Tables.{Tables}
-use Rattle.metadata.specs.Tables.{Tablets}
-use Rattle.metadata.specs.Tables.{Placements}
-use Rattle.metadata.specs.Tables.{Retirements}
-use Rattle.metadata.specs.declared.Directory.{Directory}
-use Rattle.metadata.specs.declared.Catalog.{Catalog}
-use Rattle.metadata.specs.declared.Store.{Store}
 
 -- the store's two parts, with each table as the list of its rows
 pub record DirectoryRows : Type 0 where
@@ -116,72 +106,22 @@ apply s (retirement x) =
     with_catalog s s.catalog.tablets s.catalog.placements (put retirement_key x s.catalog.retirements) s.catalog.marks
 apply s picking = s
 
--- ---- the store: the tables at their fixed room, rows past the count zero
--- a name for each table, a line each, by the general `pack` at its row of zeros
+-- ---- a step
 
-abbrev pub pack_nodes : List NodeDescriptor → Nodes
-pack_nodes l = pack_table zero_node l
+-- what a command is answered, and the rows that it leaves
+pub record Outcome : Type 0 where
+  pub answer : Answer
+  pub rows : StoreRows
 
-abbrev pub pack_tables : List TableRow → Tables
-pack_tables l = pack_table zero_table l
+-- decided, then applied where the answer is Applied, else nothing
+abbrev pub step : StoreRows → Command → Outcome
+step s c = record { answer = decide s c; rows = cond (is_applied (decide s c)) (apply s c) s }
 
-abbrev pub pack_tablets : List TabletDescriptor → Tablets
-pack_tablets l = pack_table zero_tablet l
+-- each command is given the rows that the last one left: what they leave, and what they are answered
+abbrev pub run : StoreRows → List Command → StoreRows
+run s [] = s
+run s (c ∷ cs) = run (step s c).rows cs
 
-abbrev pub pack_placements : List DesiredReplicaPlacement → Placements
-pack_placements l = pack_table zero_placement l
-
-abbrev pub pack_retirements : List RetiredReplicaLifetime → Retirements
-pack_retirements l = pack_table zero_retirement l
-
-abbrev pub pack_directory : DirectoryRows → Directory
-pack_directory d = record { cluster_id = d.name; nodes = pack_nodes d.nodes }
-
-abbrev pub pack_catalog : CatalogRows → Catalog
-pack_catalog c =
-    record {
-      tables = pack_tables c.tables;
-      tablets = pack_tablets c.tablets;
-      placements = pack_placements c.placements;
-      retirements = pack_retirements c.retirements;
-      marks = c.marks;
-    }
-
-abbrev pub pack : StoreRows → Store
-pack s = record { directory = pack_directory s.directory; catalog = pack_catalog s.catalog }
-
--- the rows of each table: a name for each, a line each
-abbrev pub view_nodes : Nodes → List NodeDescriptor
-view_nodes t = take t.count t.rows
-
-abbrev pub view_tables : Tables → List TableRow
-view_tables t = take t.count t.rows
-
-abbrev pub view_tablets : Tablets → List TabletDescriptor
-view_tablets t = take t.count t.rows
-
-abbrev pub view_placements : Placements → List DesiredReplicaPlacement
-view_placements t = take t.count t.rows
-
-abbrev pub view_retirements : Retirements → List RetiredReplicaLifetime
-view_retirements t = take t.count t.rows
-
-abbrev pub view_directory : Directory → DirectoryRows
-view_directory d = record { name = d.cluster_id; nodes = view_nodes d.nodes }
-
-abbrev pub view_catalog : Catalog → CatalogRows
-view_catalog c =
-    record {
-      tables = view_tables c.tables;
-      tablets = view_tablets c.tablets;
-      placements = view_placements c.placements;
-      retirements = view_retirements c.retirements;
-      marks = c.marks;
-    }
-
-abbrev pub view : Store → StoreRows
-view s = record { directory = view_directory s.directory; catalog = view_catalog s.catalog }
-
--- one command on a sound store: decided, then applied where the answer is Applied, else nothing
-abbrev pub step : Store → Command → Answered
-step s c = record { answer = decide (view s) c; store = cond (is_applied (decide (view s) c)) (pack (apply (view s) c)) s }
+abbrev pub answers : StoreRows → List Command → List Answer
+answers s [] = []
+answers s (c ∷ cs) = (step s c).answer ∷ answers (step s c).rows cs

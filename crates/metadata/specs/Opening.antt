@@ -6,12 +6,10 @@ use Rattle.metadata.specs.Texts.{no_name}
 use Rattle.metadata.specs.Marks.{initial_marks, highest}
 use Rattle.metadata.specs.Tables.{table_key}
 use Rattle.metadata.specs.Commands.{opening_admitted}
-use Rattle.metadata.specs.Model.{StoreRows, pack}
+use Rattle.metadata.specs.Model.{StoreRows, Outcome}
 use Rattle.metadata.specs.declared.Answer.TheVariants as A
-use Rattle.metadata.specs.declared.Answered.{Answered}
 use Rattle.metadata.specs.declared.TableRow.{TableRow}
 use Rattle.metadata.specs.declared.MetadataAllocatorState.{MetadataAllocatorState}
-use Rattle.metadata.specs.declared.Store.{Store}
 
 -- any order is accepted; the rows of the store rise by id
 unfoldable pub sorted_tables : List TableRow → List TableRow
@@ -43,15 +41,15 @@ abbrev pub no_marks : MetadataAllocatorState
 no_marks = record { max_table_id = 0; max_tablet_id = 0; max_raft_group_id = 0; max_replica_id = 0 }
 
 -- "A refused opening gives an uninitialised store, no tables, all marks zero"
-abbrev pub refused_store : Store
-refused_store = pack (empty_rows [] no_marks)
+abbrev pub refused_rows : StoreRows
+refused_rows = empty_rows [] no_marks
 
-abbrev pub opened_store : List TableRow → ℕ → Store
-opened_store tables group = pack (empty_rows (sorted_tables tables) (starting_marks tables group))
+abbrev pub opened_rows : List TableRow → ℕ → StoreRows
+opened_rows tables group = empty_rows (sorted_tables tables) (starting_marks tables group)
 
 -- "10 (the opening's only reason)"
-unfoldable pub opening : List TableRow → ℕ → Answered
+unfoldable pub opening : List TableRow → ℕ → Outcome
 opening tables group =
     cond (opening_admitted tables)
-    (record { answer = A.Applied; store = opened_store tables group })
-    (record { answer = A.InvalidCommand 10; store = refused_store })
+    (record { answer = A.Applied; rows = opened_rows tables group })
+    (record { answer = A.InvalidCommand 10; rows = refused_rows })

@@ -1,9 +1,10 @@
--- Reason 12: what document 01 lists of a store, as a test; and what an entry point answers. Assumes nothing.
+-- Reason 12: what document 01 lists of a store's rows, as a test. Assumes nothing.
 -- "A store over this room, its rows not rising, with a node twice in one placement, with padding not zero, or with a mark below
 -- a table, tablet, group or desired replica id, gets 10, reason 12, before all else."
-use Rattle.std.specs.Prelude.{ℕ, Bool, cond, List, [], ◌∷◌, leb, drop}
+use Rattle.std.specs.Prelude.{ℕ, Bool, ◌&&◌, List, [], ◌∷◌, leb, length, drop}
 use Rattle.laws.specs.Lists.{every, none_twice}
-use Rattle.table.specs.Tables.{sound_table}
+use Rattle.laws.specs.Keyed.{Keyed, before}
+use Rattle.laws.specs.Rows.{rising}
 use Rattle.laws.specs.Tests.{all_of}
 use Rattle.metadata.specs.Rooms.{node_room, table_room, tablet_room, retirement_room, replica_room}
 use Rattle.metadata.specs.Texts.{name_fits, label_fits, key_fits, optional_fits, optional_name_fits}
@@ -17,26 +18,15 @@ use Rattle.metadata.specs.Tables.{
   desired,
   is_zero_replica,
   is_zero_id,
-  is_zero_node,
-  is_zero_table,
-  is_zero_tablet,
-  is_zero_placement,
-  is_zero_retirement,
 }
-use Rattle.metadata.specs.Commands.{Command, same_host}
-use Rattle.metadata.specs.Model.{step, CatalogRows, view_nodes, view_tablets, view_placements, view_catalog}
-use Rattle.metadata.specs.declared.Answered.{Answered}
-use Rattle.metadata.specs.declared.Answer.{Answer}
-use Rattle.metadata.specs.declared.Answer.TheVariants as A
+use Rattle.metadata.specs.Commands.{same_host}
+use Rattle.metadata.specs.Model.{StoreRows, DirectoryRows, CatalogRows}
 use Rattle.metadata.specs.declared.NodeDescriptor.{NodeDescriptor}
 use Rattle.metadata.specs.declared.TabletDescriptor.{TabletDescriptor}
 use Rattle.metadata.specs.declared.TableRow.{TableRow}
 use Rattle.metadata.specs.declared.DesiredReplica.{DesiredReplica}
 use Rattle.metadata.specs.declared.PlacementPolicy.{PlacementPolicy}
 use Rattle.metadata.specs.declared.DesiredReplicaPlacement.{DesiredReplicaPlacement}
-use Rattle.metadata.specs.declared.Directory.{Directory}
-use Rattle.metadata.specs.declared.Catalog.{Catalog}
-use Rattle.metadata.specs.declared.Store.{Store}
 
 -- ---- a row: lengths and counts within the room, padding and unused places zero, no node twice in one placement
 
@@ -86,38 +76,29 @@ sound_marks c =
 
 -- ---- the store
 
-unfoldable pub sound_directory : Directory → Bool
+-- no more rows than the room, and they rise
+abbrev pub sound_table : {A : Type 0} → Keyed A → ℕ → List A → Bool
+sound_table key room rows = leb (length rows) room && rising (before key) rows
+
+unfoldable pub sound_directory : DirectoryRows → Bool
 sound_directory d =
     all_of
-    (optional_name_fits d.cluster_id
-    ∷ sound_table node_key is_zero_node node_room d.nodes.count d.nodes.rows
-    ∷ every sound_node (view_nodes d.nodes)
+    (optional_name_fits d.name
+    ∷ sound_table node_key node_room d.nodes
+    ∷ every sound_node d.nodes
     ∷ [])
 
-unfoldable pub sound_catalog : Catalog → Bool
+unfoldable pub sound_catalog : CatalogRows → Bool
 sound_catalog c =
     all_of
-    (sound_table table_key is_zero_table table_room c.tables.count c.tables.rows
-    ∷ sound_table tablet_key is_zero_tablet tablet_room c.tablets.count c.tablets.rows
-    ∷ every sound_tablet (view_tablets c.tablets)
-    ∷ sound_table placement_key is_zero_placement tablet_room c.placements.count c.placements.rows
-    ∷ every sound_placement (view_placements c.placements)
-    ∷ sound_table retirement_key is_zero_retirement retirement_room c.retirements.count c.retirements.rows
-    ∷ sound_marks (view_catalog c)
+    (sound_table table_key table_room c.tables
+    ∷ sound_table tablet_key tablet_room c.tablets
+    ∷ every sound_tablet c.tablets
+    ∷ sound_table placement_key tablet_room c.placements
+    ∷ every sound_placement c.placements
+    ∷ sound_table retirement_key retirement_room c.retirements
+    ∷ sound_marks c
     ∷ [])
 
-unfoldable pub sound : Store → Bool
-sound s = all_of (sound_directory s.directory ∷ sound_catalog s.catalog ∷ [])
-
--- what an entry point returns: 10, reason 12, and the same store, unless the store is sound
-abbrev pub entry : Store → Command → Answered
-entry s c = cond (sound s) (step s c) (record { answer = A.InvalidCommand 12; store = s })
-
--- each command is given the store that the last one returned: what the entry points leave, and what they answered
-abbrev pub run : Store → List Command → Store
-run s [] = s
-run s (c ∷ cs) = run (entry s c).store cs
-
-abbrev pub answers : Store → List Command → List Answer
-answers s [] = []
-answers s (c ∷ cs) = (entry s c).answer ∷ answers (entry s c).store cs
+unfoldable pub sound_rows : StoreRows → Bool
+sound_rows s = all_of (sound_directory s.directory ∷ sound_catalog s.catalog ∷ [])

@@ -19,7 +19,7 @@ use Rattle.metadata.specs.Tables.{
   desired,
   same_tablet,
   same_retirement,
-  zero_retirement,
+  blank_retirement,
 }
 use Rattle.metadata.specs.declared.Answer.{Answer}
 use Rattle.metadata.specs.declared.Answer.TheVariants as A
@@ -89,7 +89,7 @@ unfoldable pub is_replica_retired : ℕ → ℕ → List RetiredReplicaLifetime 
 is_replica_retired group replica retirements = has retirement_key (group, replica) retirements
 
 abbrev pub retirement_of : ℕ → ℕ → List RetiredReplicaLifetime → RetiredReplicaLifetime
-retirement_of group replica = row retirement_key zero_retirement (group, replica)
+retirement_of group replica = row retirement_key blank_retirement (group, replica)
 
 -- the replica number is desired
 unfoldable pub desires : ℕ → DesiredReplicaPlacement → Bool

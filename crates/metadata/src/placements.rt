@@ -1,6 +1,7 @@
 // A placement and its policy as rows: what they list, their unused places, when two are the same, and the row of zeros.
 ghost use Rattle.laws.specs.Lists.{every};
-ghost use Rattle.metadata.specs.Tables.{placement_key, desired, leaders, same_policy, same_placement, zero_replica, zero_placement, is_zero_replica, is_zero_id, is_zero_policy, is_zero_placement};
+ghost use Rattle.metadata.specs.Tables.{placement_key, desired, leaders, same_policy, same_placement, is_zero_replica, is_zero_id};
+ghost use Rattle.metadata.specs.Zeros.{zero_replica, zero_placement, is_zero_policy, is_zero_placement};
 ghost use Rattle.metadata.specs.Rooms.{replica_room};
 ghost use Rattle.text.specs.Texts.{all_zero};
 ghost use Rattle.std.specs.Prelude.{◌≡◌, ◌≤◌, drop, length};
@@ -76,7 +77,7 @@ impl PlacementPolicy {
         }
     }
 
-    #[tactic(auto, unfolding(laws::specs::Tests::all_of, crate::specs::Tables::is_zero_policy))]
+    #[tactic(auto, unfolding(laws::specs::Tests::all_of, crate::specs::Zeros::is_zero_policy))]
     pub fn is_zero(&self) -> bool
         ensures { result ≡ is_zero_policy self.now }
     {
@@ -186,7 +187,7 @@ impl Row for DesiredReplicaPlacement {
         }
     }
 
-    #[tactic(auto, unfolding(laws::specs::Tests::all_of, crate::specs::Tables::is_zero_placement))]
+    #[tactic(auto, unfolding(laws::specs::Tests::all_of, crate::specs::Zeros::is_zero_placement))]
     fn is_zero(&self) -> bool {
         self.tablet_id.0 == 0
             && self.configuration_epoch == 0

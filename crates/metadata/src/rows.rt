@@ -1,5 +1,6 @@
 // What the rows of the tables are: what they list, when two are the same, their keys, and the rows of zeros.
-ghost use Rattle.metadata.specs.Tables.{node_key, table_key, tablet_key, retirement_key, same_node_directory, same_node, same_tablet, same_retirement, zero_node, zero_table, zero_tablet, zero_retirement, is_zero_node, is_zero_table, is_zero_tablet, is_zero_retirement};
+ghost use Rattle.metadata.specs.Tables.{node_key, table_key, tablet_key, retirement_key, same_node_directory, same_node, same_tablet, same_retirement};
+ghost use Rattle.metadata.specs.Zeros.{zero_node, zero_table, zero_tablet, zero_retirement, is_zero_node, is_zero_table, is_zero_tablet, is_zero_retirement};
 ghost use Rattle.std.specs.Prelude.{◌≡◌, length};
 
 use crate::{
@@ -76,7 +77,7 @@ impl Row for NodeDescriptor {
         }
     }
 
-    #[tactic(auto, unfolding(laws::specs::Tests::all_of, crate::specs::Tables::is_zero_node))]
+    #[tactic(auto, unfolding(laws::specs::Tests::all_of, crate::specs::Zeros::is_zero_node))]
     fn is_zero(&self) -> bool {
         self.node_id.0 == 0
             && self.raft_addr.is_zero()
@@ -121,7 +122,7 @@ impl Row for TableRow {
         }
     }
 
-    #[tactic(auto, unfolding(laws::specs::Tests::all_of, crate::specs::Tables::is_zero_table))]
+    #[tactic(auto, unfolding(laws::specs::Tests::all_of, crate::specs::Zeros::is_zero_table))]
     fn is_zero(&self) -> bool {
         self.table_id.0 == 0 && self.tablet_count == 0
     }
@@ -176,7 +177,7 @@ impl Row for TabletDescriptor {
         }
     }
 
-    #[tactic(auto, unfolding(laws::specs::Tests::all_of, crate::specs::Tables::is_zero_tablet))]
+    #[tactic(auto, unfolding(laws::specs::Tests::all_of, crate::specs::Zeros::is_zero_tablet))]
     fn is_zero(&self) -> bool {
         self.tablet_id.0 == 0
             && self.table_id.0 == 0
@@ -250,7 +251,7 @@ impl Row for RetiredReplicaLifetime {
         }
     }
 
-    #[tactic(auto, unfolding(laws::specs::Tests::all_of, crate::specs::Tables::is_zero_retirement))]
+    #[tactic(auto, unfolding(laws::specs::Tests::all_of, crate::specs::Zeros::is_zero_retirement))]
     fn is_zero(&self) -> bool {
         self.raft_group_id.0 == 0
             && self.replica_id.0 == 0

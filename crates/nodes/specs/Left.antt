@@ -4,7 +4,9 @@ use Rattle.laws.specs.Keyed.{before}
 use Rattle.laws.specs.Rows.{find_index, on_found}
 use Rattle.table.specs.Tables.{under, view, with_row, set_row}
 use Rattle.metadata.specs.Nodes.{with_lifecycle}
-use Rattle.metadata.specs.Tables.{Nodes, node_key, zero_node}
+use Rattle.metadata.specs.Stored.{Nodes}
+use Rattle.metadata.specs.Tables.{node_key}
+use Rattle.metadata.specs.Zeros.{zero_node}
 use Rattle.metadata.specs.declared.NodeDescriptor.{NodeDescriptor}
 use Rattle.metadata.specs.declared.NodeId.{NodeId}
 

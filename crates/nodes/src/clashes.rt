@@ -1,6 +1,6 @@
 // The endpoints of a new node against those of each node that is there (document 01, refusal 14).
 ghost use Rattle.laws.specs.Rows.{find_index};
-ghost use Rattle.metadata.specs.Model.{view_nodes};
+ghost use Rattle.metadata.specs.Stored.{view_nodes};
 ghost use Rattle.metadata.specs.Nodes.{clash};
 ghost use Rattle.metadata.specs.Tables.{endpoints};
 ghost use Rattle.metadata.specs.Texts.{same_name};

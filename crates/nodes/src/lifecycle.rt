@@ -1,6 +1,6 @@
 // Lifecycle: a node moves one step forward at a time, and leaves only when no tablet expects it.
 ghost use Rattle.metadata.specs.Answers.{Gives, each};
-ghost use Rattle.metadata.specs.Model.{view_nodes, view_tablets, view_placements};
+ghost use Rattle.metadata.specs.Stored.{view_nodes, view_tablets, view_placements};
 ghost use Rattle.metadata.specs.Nodes.{lifecycle_can_advance, expected_at, still_expected, judge_lifecycle};
 ghost use Rattle.metadata.specs.Tables.{desired};
 ghost use Rattle.nodes.specs.Steps.{expected_of, leaves, judge_move};

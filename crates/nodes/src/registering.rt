@@ -1,6 +1,6 @@
 // Registering: a new node brings endpoints that no other has, a known one may only move on.
 ghost use Rattle.metadata.specs.Answers.{Gives};
-ghost use Rattle.metadata.specs.Model.{view_nodes, view_tablets, view_placements};
+ghost use Rattle.metadata.specs.Stored.{view_nodes, view_tablets, view_placements};
 ghost use Rattle.metadata.specs.Nodes.{judge_new_node, judge_registering};
 ghost use Rattle.nodes.specs.Steps.{judge_known_row};
 

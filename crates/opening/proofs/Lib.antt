@@ -1,2 +1,3 @@
 -- The laws that belong to no one function. Assumes nothing.
 pub mod Sorting
+pub mod Opened

@@ -4,7 +4,8 @@ use Rattle.std.specs.Prelude.{◌≡◌, ℕ, Bool, true, false, not, cond, ◌&
 use Rattle.std.proofs.Common.{refl, sym, ap, ap₂, ◌∙◌}
 use Rattle.laws.specs.Keyed.{Keyed, look, has, row}
 use Rattle.metadata.specs.Answers.{◌⊳◌, refuse, each}
-use Rattle.metadata.specs.Tables.{tablet_key, placement_key, tablet_of, placement_of, blank_placement, zero_placement, desired, leaders, same_placement}
+use Rattle.metadata.specs.Tables.{tablet_key, placement_key, tablet_of, placement_of, blank_placement, desired, leaders, same_placement}
+use Rattle.metadata.specs.Zeros.{zero_placement}
 use Rattle.metadata.specs.Placements.{judge_replica, judge_leader, hosts, judge_domains, judge_kept_replicas, judge_epoch, judge_new_placement, judge_placement}
 use Rattle.metadata.specs.Rooms.{tablet_room}
 use Rattle.metadata.specs.declared.RaftGroupId.{RaftGroupId}

@@ -2,7 +2,7 @@
 
 // Where each copy and each preferred leader of a tablet may stand (document 01, refusals 17 and 26 to 28).
 ghost use Rattle.metadata.specs.Answers.{Gives, each};
-ghost use Rattle.metadata.specs.Model.{view_nodes, view_retirements};
+ghost use Rattle.metadata.specs.Stored.{view_nodes, view_retirements};
 ghost use Rattle.metadata.specs.Placements.{stands_already, eligible, class_differs, judge_replica, judge_leader, hosts};
 ghost use Rattle.metadata.specs.Tables.{node_of, desired, leaders};
 ghost use Rattle.placements.specs.HandsOn.{HandsOn};

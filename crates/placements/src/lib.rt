@@ -2,7 +2,7 @@
 
 // Placement: where the copies of a tablet are to stand (document 01, port item 9).
 ghost use Rattle.metadata.specs.Answers.{Gives};
-ghost use Rattle.metadata.specs.Model.{view_nodes, view_tablets, view_placements, view_retirements};
+ghost use Rattle.metadata.specs.Stored.{view_nodes, view_tablets, view_placements, view_retirements};
 ghost use Rattle.metadata.specs.Placements.{judge_placement};
 ghost use Rattle.placements.specs.Stored.{stored_in, judge_new_after};
 ghost use Rattle.std.specs.Option.{option_map};

@@ -2,9 +2,9 @@
 
 // Questions to a store. Each tests the store first; of one that is not sound it says that alone.
 ghost use Rattle.metadata.specs.Marks.{next_replica_id};
-ghost use Rattle.metadata.specs.Model.{view_nodes, view_tables, view_tablets, view_placements, view_retirements};
-ghost use Rattle.metadata.specs.Sound.{sound};
-ghost use Rattle.metadata.specs.Tables.{node_key, tablet_key, placement_key, retirement_key, zero_node, zero_tablet, zero_placement, zero_retirement};
+ghost use Rattle.metadata.specs.Stored.{view_nodes, view_tables, view_tablets, view_placements, view_retirements, sound};
+ghost use Rattle.metadata.specs.Tables.{node_key, tablet_key, placement_key, retirement_key};
+ghost use Rattle.metadata.specs.Zeros.{zero_node, zero_tablet, zero_placement, zero_retirement};
 ghost use Rattle.metadata.specs.Tablets.{is_complete};
 ghost use Rattle.questions.specs.Lookups.{Tells, Looks};
 ghost use Rattle.std.specs.Prelude.{◌≡◌, ⊤};

@@ -1,16 +1,15 @@
 -- What a tape holds (document 01, "the command tape"): its opening, and the commands behind it. Assumes nothing.
 use Rattle.std.specs.Prelude.{ℕ, zero, suc, ◌+◌, ◌*◌, ◌-◌, Bool, cond, ◌&&◌, List, [], ◌∷◌, ◌++◌, leb, ltb, eqb, length}
-use Rattle.decode.specs.Decode.{number_at, byte_at, name_at, node_at, tablet_at, placement_at, retirement_at, table_at, list_at}
+use Rattle.laws.specs.Bytes.{number_at, byte_at}
+use Rattle.decode.specs.Decode.{name_at, node_at, tablet_at, placement_at, retirement_at, table_at, list_at}
 use Rattle.metadata.specs.Rooms.{table_room}
-use Rattle.metadata.specs.Opening.{opening, refused_store}
-use Rattle.metadata.specs.Sound.{answers}
+use Rattle.metadata.specs.Opening.{opening, refused_rows}
+use Rattle.metadata.specs.Model.{StoreRows, Outcome, answers}
 use Rattle.metadata.specs.declared.Answer.{Answer}
 use Rattle.metadata.specs.declared.Answer.TheVariants as A
 use Rattle.metadata.specs.declared.kinds.TapeFault.TheVariants as F
-use Rattle.metadata.specs.declared.Answered.{Answered}
 use Rattle.metadata.specs.declared.Command.{Command}
 use Rattle.metadata.specs.declared.Command.TheVariants.{Naming as naming, Registering as registering, Lifecycle as lifecycle, Tablet as tablet, Placement as placement, Retirement as retirement, Picking as picking}
-use Rattle.metadata.specs.declared.Store.{Store}
 use Rattle.metadata.specs.declared.TableRow.{TableRow}
 use Rattle.reading.specs.declared.Next.{Next}
 use Rattle.reading.specs.declared.Next.TheVariants as N
@@ -76,7 +75,7 @@ abbrev pub lines : Reading → ℕ
 lines r = length r.commands + length r.stop
 
 -- every answer, the last 40 included
-abbrev pub tape_answers : Store → Reading → List Answer
+abbrev pub tape_answers : StoreRows → Reading → List Answer
 tape_answers s r = answers s r.commands ++ r.stop
 
 -- ---- "Opening: table count 1 byte, group mark 8, then per table id 8 and tablet count 4"
@@ -91,14 +90,14 @@ group_of l = number_at 8 l 1
 abbrev pub body_at : List ℕ → ℕ
 body_at l = 9 + 12 * byte_at l 0
 
-abbrev pub cut_opening : Answered
-cut_opening = record { answer = A.BadTape F.Cut 0; store = refused_store }
+abbrev pub cut_opening : Outcome
+cut_opening = record { answer = A.BadTape F.Cut 0; rows = refused_rows }
 
 -- "one cut short prints `0 40 2 0 0`; more than 16 tables is refused after nine bytes"
-unfoldable pub open_tape : List ℕ → Answered
+unfoldable pub open_tape : List ℕ → Outcome
 open_tape l =
     cond (ltb (length l) 9)
     cut_opening
     (cond (ltb table_room (byte_at l 0))
-    (record { answer = A.InvalidCommand 10; store = refused_store })
+    (record { answer = A.InvalidCommand 10; rows = refused_rows })
     (cond (ltb (length l) (body_at l)) cut_opening (opening (tables_of l) (group_of l))))

@@ -4,15 +4,16 @@
 ghost use Rattle.reading.specs.Reader.{is_command, size_of, next_at, command_at, read_from, lines, body_at};
 ghost use Rattle.std.specs.Prelude.{◌≡◌, ◌+◌, ◌≤◌, true, length};
 
-use decode::{node_at, number8, placement_at, retirement_at, tablet_at, text_at};
+use decode::{node_at, placement_at, retirement_at, tablet_at, text_at};
 use metadata::{Command, NodeId};
+use numbers::number8;
 
 mod opened;
 
 pub use opened::open_tape;
 
 // The opening is a table count and the group mark, and then a row for each table.
-const HEAD: usize = 9;
+pub const HEAD: usize = 9;
 
 const TABLE: usize = 12;
 

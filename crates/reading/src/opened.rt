@@ -1,13 +1,15 @@
 // The opening at the start of a tape.
 ghost use Rattle.reading.specs.Reader.{cut_opening, open_tape};
-ghost use Rattle.std.specs.Prelude.{◌≡◌};
+ghost use Rattle.metadata.specs.Stored.{Opened};
 
 use crate::{HEAD, body_at};
-use decode::{number8, tables_at};
+use decode::tables_at;
 use metadata::{Answer, Answered, TABLE_ROOM, TapeFault};
+use numbers::number8;
 
+#[tactic(auto, using(crate::proofs::Accepted::cut))]
 fn cut_opening() -> Answered
-    ensures { result ≡ cut_opening }
+    ensures { Opened cut_opening result.answer result.store }
 {
     Answered {
         answer: Answer::BadTape(TapeFault::Cut, 0),
@@ -18,7 +20,7 @@ fn cut_opening() -> Answered
 // More tables than there is room for are refused by the head alone.
 #[tactic(auto, unfolding(crate::specs::Reader::open_tape))]
 pub fn open_tape(tape: &[u8]) -> Answered
-    ensures { result ≡ open_tape tape.now }
+    ensures { Opened (open_tape tape.now) result.answer result.store }
 {
     if tape.len() < HEAD {
         return cut_opening();

@@ -5,7 +5,7 @@ ghost use Rattle.std.specs.Prelude.{◌≡◌, true, false, eqb, MatchOption};
 ghost use Rattle.laws.specs.Keyed.{has};
 ghost use Rattle.laws.specs.Lists.{any};
 ghost use Rattle.metadata.specs.Answers.{Gives};
-ghost use Rattle.metadata.specs.Model.{view_tablets, view_placements, view_retirements};
+ghost use Rattle.metadata.specs.Stored.{view_tablets, view_placements, view_retirements};
 ghost use Rattle.metadata.specs.Tables.{group_key, tablet_of_group};
 ghost use Rattle.metadata.specs.Tablets.{is_replica_retired, desires, judge_retirement};
 ghost use Rattle.retirements.specs.Steps.{judge_known_row, judge_new_row};

@@ -2,8 +2,8 @@
 
 // Reason 12: whether a store keeps to its room, its rows rise, its padding is zero and its marks are sound.
 ghost use Rattle.laws.specs.Lists.{every};
-ghost use Rattle.metadata.specs.Model.{view_nodes, view_tables, view_tablets, view_placements, view_catalog};
-ghost use Rattle.metadata.specs.Sound.{sound_node, sound_tablet, sound_policy, sound_placement, replicas_below, sound_marks, sound_directory, sound_catalog, sound};
+ghost use Rattle.metadata.specs.Stored.{view_nodes, view_tables, view_tablets, view_placements, view_catalog, stored_directory, stored_catalog, sound};
+ghost use Rattle.metadata.specs.Sound.{sound_node, sound_tablet, sound_policy, sound_placement, replicas_below, sound_marks};
 ghost use Rattle.metadata.specs.Tables.{endpoints};
 ghost use Rattle.metadata.specs.Texts.{name_fits};
 ghost use Rattle.std.specs.Prelude.{◌≡◌, leb};
@@ -116,9 +116,9 @@ fn nodes_sound(d: &Directory) -> bool
     d.nodes.used().iter().all(|n| sound_node(n))
 }
 
-#[tactic(auto, unfolding(laws::specs::Tests::all_of, metadata::specs::Sound::sound_directory))]
+#[tactic(auto, unfolding(laws::specs::Tests::all_of, metadata::specs::Stored::stored_directory))]
 pub fn sound_directory(d: &Directory) -> bool
-    ensures { result ≡ sound_directory d.now }
+    ensures { result ≡ stored_directory d.now }
 {
     d.cluster_id.fits() && d.nodes.is_sound() && nodes_sound(d)
 }
@@ -135,9 +135,9 @@ fn placements_sound(c: &Catalog) -> bool
     c.placements.used().iter().all(|p| sound_placement(p))
 }
 
-#[tactic(auto, unfolding(laws::specs::Tests::all_of, metadata::specs::Sound::sound_catalog))]
+#[tactic(auto, unfolding(laws::specs::Tests::all_of, metadata::specs::Stored::stored_catalog))]
 pub fn sound_catalog(c: &Catalog) -> bool
-    ensures { result ≡ sound_catalog c.now }
+    ensures { result ≡ stored_catalog c.now }
 {
     c.tables.is_sound()
         && c.tablets.is_sound()
@@ -149,7 +149,7 @@ pub fn sound_catalog(c: &Catalog) -> bool
 }
 
 // Document 01: a store for which this does not hold "gets 10, reason 12, before all else".
-#[tactic(auto, unfolding(laws::specs::Tests::all_of, metadata::specs::Sound::sound))]
+#[tactic(auto, unfolding(laws::specs::Tests::all_of, metadata::specs::Stored::sound))]
 pub fn sound(s: &Store) -> bool
     ensures { result ≡ sound s.now }
 {

@@ -3,7 +3,8 @@ use Rattle.laws.specs.Keyed.{before}
 use Rattle.metadata.specs.declared.Command.{Command}
 use Rattle.metadata.specs.declared.Command.TheVariants.{Naming as naming, Registering as registering, Lifecycle as lifecycle, Tablet as tablet, Placement as placement, Retirement as retirement, Picking as picking}
 use Rattle.metadata.specs.Model.{raised_by_tablet, raised_by_placement}
-use Rattle.metadata.specs.Tables.{Nodes, Tablets, Placements, Retirements, tablet_key, placement_key, retirement_key}
+use Rattle.metadata.specs.Stored.{Nodes, Tablets, Placements, Retirements}
+use Rattle.metadata.specs.Tables.{tablet_key, placement_key, retirement_key}
 use Rattle.metadata.specs.Texts.{OptionalName}
 use Rattle.metadata.specs.declared.MetadataAllocatorState.{MetadataAllocatorState}
 use Rattle.metadata.specs.declared.Store.{Store}

@@ -2,13 +2,11 @@
 
 // One command on a store: what it is answered, and what an Applied one changes where it stands.
 ghost use Rattle.metadata.specs.Answers.{Gives, is_applied};
-ghost use Rattle.metadata.specs.Model.{judge, decide, step, view};
-ghost use Rattle.metadata.specs.Sound.{sound};
-ghost use Rattle.metadata.specs.declared.Answered.{Answered};
+ghost use Rattle.metadata.specs.Model.{judge, decide, raised_by_tablet, raised_by_placement};
+ghost use Rattle.metadata.specs.Stored.{view, sound, Stepped};
 ghost use Rattle.std.specs.Prelude.{◌≡◌, true};
 ghost use Rattle.steps.specs.Changes.{with_name, with_tablets, with_placements, with_retirements, changed};
 ghost use Rattle.laws.specs.Keyed.{before};
-ghost use Rattle.metadata.specs.Model.{raised_by_tablet, raised_by_placement};
 ghost use Rattle.metadata.specs.Tables.{tablet_key, placement_key, retirement_key};
 ghost use Rattle.table.specs.Tables.{with_row, put_row};
 
@@ -111,10 +109,10 @@ pub fn change(s: &mut Store, c: &Command)
 
 // Inner: who holds a store shows that it is sound. One command: decided, then carried out where the answer is Applied.
 // That the store is sound stands in `requires`, here and in the crates that run tapes: a type that owns a sound store could not be made of one that a caller of `store` lends without a copy of it.
-#[tactic(auto, using(crate::proofs::Changing::changed_is))]
+#[tactic(auto, using(crate::proofs::Changing::stepping))]
 pub fn step(s: &mut Store, c: &Command) -> Answer
     requires { sound s.old ≡ true }
-    ensures { ◌≡◌ {A = Answered} (record { answer = result; store = s.new }) (step s.old c.now) }
+    ensures { Stepped s.old c.now s.new result }
 {
     let answer = decide(s, c);
     if answer.is_applied() {

@@ -1,16 +1,16 @@
 -- What it says that a table is sound: its rows in use rise, and rows of zeros stand behind them. Over any type of rows; z is the row of zeros.
 -- Assumes nothing.
-use Rattle.std.specs.Prelude.{◌≡◌, ℕ, ◌≤◌, Bool, true, ◌&&◌, List, [], ◌∷◌, eqb, leb, length, take, drop}
+use Rattle.std.specs.Prelude.{◌≡◌, ℕ, Bool, true, ◌&&◌, List, [], ◌∷◌, eqb, leb, length, take, drop}
 use Rattle.std.proofs.Common.{eqb-true, leb-true, eq-eqb, le-leb}
-use Rattle.laws.specs.Keyed.{Keyed, before, Rising}
+use Rattle.laws.specs.Keyed.{Keyed, before}
 use Rattle.laws.specs.Lists.{every}
 use Rattle.laws.specs.Rows.{rising}
 use Rattle.laws.specs.Tests.{all_of}
 use Rattle.laws.proofs.Every.{clear_padded, padded_clear}
 use Rattle.laws.proofs.KeyedLaws.{rising_true, rising_pass}
-use Rattle.laws.proofs.Packed.{Packed, packed}
+use Rattle.laws.proofs.Packed.{Packed}
 use Rattle.laws.proofs.Tests.{each_of, all_of_lem}
-use Rattle.table.specs.Tables.{padded, sound_table}
+use Rattle.table.specs.Tables.{sound_table}
 
 module _ {A : Type 0} (T : Keyed A) (isZeroRow : A → Bool) where
   -- as many rows as the room: the other three tests are left
@@ -37,7 +37,7 @@ module _ {A : Type 0} (T : Keyed A) (isZeroRow : A → Bool) where
           }
 
       -- where the zero row passes the test
-      packed_sound : isZeroRow z ≡ true → Packed T z room count rows → sound_table T isZeroRow room count rows ≡ true
+      pub packed_sound : isZeroRow z ≡ true → Packed T z room count rows → sound_table T isZeroRow room count rows ≡ true
       unfolding sound_table
       packed_sound self p =
           all_of_lem tests (
@@ -47,7 +47,3 @@ module _ {A : Type 0} (T : Keyed A) (isZeroRow : A → Bool) where
               (rising_pass T (take count rows) p.rises, (padded_clear isZeroRow z self count rows p.rest, tt)),
             ),
           )
-
-    -- a table made of rows that rise and have room is sound
-    pub made_sound : (room : ℕ) → isZeroRow z ≡ true → (l : List A) → length l ≤ room → Rising T l → sound_table T isZeroRow room (length l) (padded z room l) ≡ true
-    made_sound room self l h a = packed_sound room (length l) (padded z room l) self (packed T z room l h a)

@@ -5,7 +5,7 @@ ghost use Rattle.std.specs.Prelude.{◌≡◌, cond};
 ghost use Rattle.laws.specs.Keyed.{has};
 ghost use Rattle.laws.specs.Lists.{any, tally};
 ghost use Rattle.metadata.specs.Answers.{Gives};
-ghost use Rattle.metadata.specs.Model.{view_tables, view_tablets};
+ghost use Rattle.metadata.specs.Stored.{view_tables, view_tablets};
 ghost use Rattle.metadata.specs.Tables.{group_key, table_of};
 ghost use Rattle.metadata.specs.Tablets.{is_hash, is_range, in_table, holds_bucket, partitions_overlap, overlap_at, judge_hash, judge_range, judge_new_tablet, judge_tablet, is_complete};
 

@@ -2,22 +2,23 @@
 use Prim.Native.Nat.{ℕ, ◌*◌, ◌/◌, ◌≤◌, ◌<◌}
 use native.Mathlib.Omega.{arith}
 use native.Mathlib.Nat.{div-add-mod', mod-lt}
-use mathlib.Core.Path.{◌≡◌, sym, ap, ap₂, ◌∙◌}
-use mathlib.Core.Bool.{Bool, true, false}
-use mathlib.Core.List.{List, ◌++◌}
+use mathlib.Core.Path.{◌≡◌, refl, sym, ap, ap₂, ◌∙◌}
+use mathlib.Core.Bool.{Bool, true, false, cond}
+use mathlib.Core.List.{List, [], ◌∷◌, ◌++◌}
 use lib.ListN.{length, drop}
-use borrow.Author.Tests.{le-leb, lt-leb, le-ltb}
+use borrow.Author.Tests.{le-leb, lt-leb, le-ltb, lt-ltb}
 use lib.Dec.{ltb}
 use Rattle.metadata.specs.Answers.{is_applied}
-use Rattle.metadata.specs.Sound.{run}
+use Rattle.metadata.specs.Model.{StoreRows, run}
+use Rattle.metadata.specs.Stored.{view, Opened}
+use Rattle.metadata.specs.declared.Answer.{Answer}
 use Rattle.metadata.specs.declared.Answered.{Answered}
 use Rattle.metadata.specs.declared.Store.{Store}
-use Rattle.tape.specs.declared.Ran.{Ran}
-use Rattle.tape.specs.Tape.{outcome, final_store, ran, ran_out}
+use Rattle.tape.specs.Tape.{outcome, final_store, RunOf, ran_out}
 use Rattle.tape_commands.specs.Commands.{Done}
 use Rattle.answer_numbers.specs.Numbers.{numbers}
 use Rattle.reading.specs.Reader.{read_from, lines, tape_answers, open_tape, body_at}
-use Rattle.reading.proofs.Accepted.{applied, opened_is_sound}
+use Rattle.reading.proofs.Accepted.{applied}
 use Rattle.tape_commands.proofs.Running.{lines-length}
 
 -- ---- the whole run; o is what the opening gave, b whether it was accepted, n the number of lines
@@ -28,20 +29,25 @@ quarter_over len n h = omega (arith, div-add-mod' len 4, mod-lt len {m = 4} (ome
 quarter_fits : (len n : ℕ) → n ≤ len / 4 → 4 * n ≤ len
 quarter_fits len n h = omega (arith, div-add-mod' len 4)
 
-module _ (l : List ℕ) (o : Answered) (b : Bool) (q : o ≡ open_tape l) (p : b ≡ is_applied o.answer) where
+module _ (l : List ℕ) (o : Answered) (b : Bool) (q : Opened (open_tape l) o.answer o.store) (p : b ≡ is_applied o.answer) where
   module _ (at n : ℕ) (out : List ℕ) (a : at ≡ body_at l) (m : n ≡ lines (read_from l at)) where
     pub answers_fit : n ≤ length out / 4 → 4 * lines (read_from l at) ≤ length out
     answers_fit h = omega (arith, quarter_fits (length out) n h)
 
     line_count : b ≡ true → length (outcome l) ≡ n
     unfolding outcome
-    line_count e = rw (applied l o b q p e) (lines-length (open_tape l).store (read_from l (body_at l)) ∙ sym (m ∙ ap (λ (k : ℕ). lines (read_from l k)) a))
+    line_count e = rw (applied l o b q p e) (lines-length (open_tape l).rows (read_from l (body_at l)) ∙ sym (m ∙ ap (λ (k : ℕ). lines (read_from l k)) a))
 
-    pub short-run : b ≡ true → length out / 4 < n → ◌≡◌ {A = Ran} (record { opened = true; short = true; lines = n; store = o.store }) (ran l (length out))
-    unfolding ran
+    pub short-run : b ≡ true → length out / 4 < n → RunOf l (length out) (record { opened = true; short = ltb (length out / 4) n; lines = n; store = o.store })
     short-run e h =
         let f : length out < 4 * length (outcome l) = omega (arith, line_count e, quarter_over (length out) n h) in
-        rw (lt-leb (4 * length (outcome l)) (length out) f, applied l o b q p e, line_count e, q)
+        record {
+          opened = sym (applied l o b q p e);
+          short = lt-ltb (length out / 4) n h ∙ sym (lt-ltb (length out) (4 * length (outcome l)) f);
+          lines = sym (line_count e);
+          rows = rw (lt-ltb (length out / 4) n h) q.rows;
+          sounds = q.sounds;
+        }
 
     pub short_out : b ≡ true → length out / 4 < n → out ≡ ran_out l out
     unfolding ran_out
@@ -50,22 +56,53 @@ module _ (l : List ℕ) (o : Answered) (b : Bool) (q : o ≡ open_tape l) (p : b
         rw (lt-leb (4 * length (outcome l)) (length out) f)
 
     module _ (s : Store) (new : List ℕ) (d : Done l o.store at out s new) where
-      pub whole_run : b ≡ true → n ≤ length out / 4 → ◌≡◌ {A = Ran} (record { opened = true; short = ltb (length out / 4) n; lines = n; store = s }) (ran l (length out))
-      unfolding ran final_store
+      pub whole_run : b ≡ true → n ≤ length out / 4 → RunOf l (length out) (record { opened = true; short = ltb (length out / 4) n; lines = n; store = s })
+      unfolding final_store
       whole_run e h =
           let f : 4 * length (outcome l) ≤ length out = omega (arith, line_count e, quarter_fits (length out) n h) in
-          let w : s ≡ run (open_tape l).store (read_from l (body_at l)).commands =
-          d.store ∙ ap₂ (λ (x : Answered) (k : ℕ). run x.store (read_from l k).commands) q a in
-          rw (le-ltb (length out / 4) n h, le-leb (4 * length (outcome l)) (length out) f, applied l o b q p e, line_count e) (ap (λ (x : Store). record { opened = true; short = false; lines = n; store = x }) w)
+          let w : view s ≡ run (open_tape l).rows (read_from l (body_at l)).commands =
+          d.rows ∙ ap₂ (λ (x : StoreRows) (k : ℕ). run x (read_from l k).commands) q.rows a in
+          record {
+            opened = sym (applied l o b q p e);
+            short = le-ltb (length out / 4) n h ∙ sym (le-ltb (length out) (4 * length (outcome l)) f);
+            lines = sym (line_count e);
+            rows = rw (le-ltb (length out / 4) n h, applied l o b q p e) w;
+            sounds = d.sounds;
+          }
 
       pub whole_out : b ≡ true → n ≤ length out / 4 → new ≡ ran_out l out
       unfolding ran_out outcome
       whole_out e h =
           let f : 4 * length (outcome l) ≤ length out = omega (arith, line_count e, quarter_fits (length out) n h) in
-          let w : new ≡ numbers (tape_answers (open_tape l).store (read_from l (body_at l))) ++ drop (4 * length (tape_answers (open_tape l).store (read_from l (body_at l)))) out =
+          let w : new ≡ numbers (tape_answers (open_tape l).rows (read_from l (body_at l))) ++ drop (4 * length (tape_answers (open_tape l).rows (read_from l (body_at l)))) out =
           d.answered
-          ∙ ap₂ (λ (x : Answered) (k : ℕ). numbers (tape_answers x.store (read_from l k)) ++ drop (4 * length (tape_answers x.store (read_from l k))) out) q a in
+          ∙ ap₂ (λ (x : StoreRows) (k : ℕ). numbers (tape_answers x (read_from l k)) ++ drop (4 * length (tape_answers x (read_from l k))) out) q.rows a in
           rw (le-leb (4 * length (outcome l)) (length out) f) (w ∙ sym (rw (applied l o b q p e)))
 
 -- for `using` on `run_whole`: what it asks of the commands' run, and a list that is too short; of a whole run each clause has its law
-pub ruleset runs = (answers_fit, short-run, short_out, opened_is_sound)
+pub ruleset runs = (answers_fit, short-run, short_out)
+
+-- ---- a refused opening is the one answer
+module _ (l : List ℕ) (a : Answer) (s : Store) (q : Opened (open_tape l) a s) (e : is_applied a ≡ false) where
+  refuses : is_applied (open_tape l).answer ≡ false
+  refuses = ap is_applied (sym q.answer) ∙ e
+
+  pub refused_outcome : outcome l ≡ a ∷ []
+  unfolding outcome
+  refused_outcome = rw (refuses, q.answer)
+
+  -- for `using` on `run_refused`
+  pub refused_run : (room : ℕ) → RunOf l room (record { opened = false; short = ltb room 4; lines = 1; store = s })
+  unfolding final_store
+  refused_run room =
+      record {
+        opened = sym refuses;
+        short = rw refused_outcome;
+        lines = rw refused_outcome;
+        rows = rw refuses (q.rows ∙ either (ltb room 4));
+        sounds = q.sounds;
+      }
+    where
+      either : (t : Bool) → (open_tape l).rows ≡ cond t (open_tape l).rows (open_tape l).rows
+      either true = refl
+      either false = refl

@@ -1,11 +1,11 @@
--- The run of a command tape (document 01): what it is answered, and the store that is left. Assumes nothing.
-use Rattle.std.specs.Prelude.{ℕ, ◌*◌, ◌≡◌, true, false, cond, List, [], ◌∷◌, ◌++◌, leb, length, drop}
+-- The run of a command tape (document 01): what it is answered, and the rows that are left. Assumes nothing.
+use Rattle.std.specs.Prelude.{ℕ, ◌*◌, ◌≡◌, true, false, cond, List, [], ◌∷◌, ◌++◌, leb, ltb, length, drop}
 use Rattle.metadata.specs.Answers.{is_applied}
-use Rattle.metadata.specs.Sound.{run, answers}
+use Rattle.metadata.specs.Model.{StoreRows, run, answers}
 use Rattle.metadata.specs.History.{begun}
 use Rattle.metadata.specs.Claims.{Claims}
+use Rattle.metadata.specs.Stored.{view, sound}
 use Rattle.metadata.specs.declared.Answer.{Answer}
-use Rattle.metadata.specs.declared.Store.{Store}
 use Rattle.reading.specs.Reader.{read_from, tape_answers, tables_of, group_of, body_at, open_tape}
 use Rattle.answer_numbers.specs.Numbers.{numbers}
 use Rattle.tape.specs.declared.Ran.{Ran}
@@ -13,17 +13,18 @@ use Rattle.tape.specs.declared.Ran.{Ran}
 -- "A refused opening prints line 0 and stops": then the one answer is the opening's
 unfoldable pub outcome : List ℕ → List Answer
 outcome l =
-    cond (is_applied (open_tape l).answer) (tape_answers (open_tape l).store (read_from l (body_at l))) ((open_tape l).answer ∷ [])
+    cond (is_applied (open_tape l).answer) (tape_answers (open_tape l).rows (read_from l (body_at l))) ((open_tape l).answer ∷ [])
 
-unfoldable pub final_store : List ℕ → Store
-final_store l = cond (is_applied (open_tape l).answer) (run (open_tape l).store (read_from l (body_at l)).commands) (open_tape l).store
+unfoldable pub final_store : List ℕ → StoreRows
+final_store l = cond (is_applied (open_tape l).answer) (run (open_tape l).rows (read_from l (body_at l)).commands) (open_tape l).rows
 
 -- what a run of a whole tape gives where the list has this room: with too little of it nothing is run and nothing is written
-unfoldable pub ran : List ℕ → ℕ → Ran
-ran l room =
-    cond (leb (4 * length (outcome l)) room)
-    (record { opened = is_applied (open_tape l).answer; short = false; lines = length (outcome l); store = final_store l })
-    (record { opened = is_applied (open_tape l).answer; short = true; lines = length (outcome l); store = (open_tape l).store })
+pub record RunOf (l : List ℕ) (room : ℕ) (r : Ran) : Type 0 where
+  pub opened : r.opened ≡ is_applied (open_tape l).answer
+  pub short : r.short ≡ ltb room (4 * length (outcome l))
+  pub lines : r.lines ≡ length (outcome l)
+  pub rows : view r.store ≡ cond r.short (open_tape l).rows (final_store l)
+  pub sounds : sound r.store ≡ true
 
 unfoldable pub ran_out : List ℕ → List ℕ → List ℕ
 ran_out l out = cond (leb (4 * length (outcome l)) (length out)) (numbers (outcome l) ++ drop (4 * length (outcome l)) out) out
@@ -32,4 +33,4 @@ ran_out l out = cond (leb (4 * length (outcome l)) (length out)) (numbers (outco
 abbrev pub TapeClaims : List ℕ → Ran → Type 0
 TapeClaims l r =
     r.opened ≡ true → r.short ≡ false →
-    Claims (begun (tables_of l) (group_of l)) (read_from l (body_at l)).commands (answers (open_tape l).store (read_from l (body_at l)).commands) r.store
+    Claims (begun (tables_of l) (group_of l)) (read_from l (body_at l)).commands (answers (open_tape l).rows (read_from l (body_at l)).commands) (view r.store)

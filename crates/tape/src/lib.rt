@@ -2,9 +2,10 @@
 
 // The command tape: the run over a whole tape.
 ghost use Rattle.metadata.specs.Answers.{is_applied};
+ghost use Rattle.metadata.specs.Stored.{Opened};
 ghost use Rattle.reading.specs.Reader.{open_tape};
 ghost use Rattle.std.specs.Prelude.{◌≡◌, false, length};
-ghost use Rattle.tape.specs.Tape.{ran, ran_out, TapeClaims};
+ghost use Rattle.tape.specs.Tape.{RunOf, ran_out, TapeClaims};
 
 use answer_numbers::write_answer;
 use metadata::{Answered, Store};
@@ -22,11 +23,11 @@ pub struct Ran {
 }
 
 // A refused opening is the one answer.
-// The contract of the run, `ran` and `ran_out`, stands here for a refused opening, at `run_whole` for any tape, and at `run`, which adds the history.
-#[tactic(auto, unfolding(crate::specs::Tape::outcome, crate::specs::Tape::final_store, crate::specs::Tape::ran, crate::specs::Tape::ran_out, answer_numbers::specs::Numbers::numbers))]
+// The contract of the run, `RunOf` and `ran_out`, stands here for a refused opening, at `run_whole` for any tape, and at `run`, which adds the history.
+#[tactic(auto, using(crate::proofs::Whole::refused_run))]
 fn run_refused(tape: &[u8], opening: Answered, out: &mut [u64]) -> Ran
-    requires { (opening ≡ open_tape tape.now) × (is_applied opening.answer ≡ false) }
-    ensures ran { result ≡ ran tape.now (length out.old) }
+    requires { Opened (open_tape tape.now) opening.answer opening.store × (is_applied opening.answer ≡ false) }
+    ensures ran { RunOf tape.now (length out.old) result }
     ensures out { out.new ≡ ran_out tape.now out.old }
 {
     let short = out.len() < 4;
@@ -44,7 +45,7 @@ fn run_refused(tape: &[u8], opening: Answered, out: &mut [u64]) -> Ran
 // A whole tape in memory: four numbers for each answer go to the lent list. Too short a list: nothing is run, and nothing is written.
 #[tactic(auto, using(crate::proofs::Whole::runs))]
 fn run_whole(tape: &[u8], out: &mut [u64]) -> Ran
-    ensures ran { result ≡ ran tape.now (length out.old) }
+    ensures ran { RunOf tape.now (length out.old) result }
     ensures out { out.new ≡ ran_out tape.now out.old }
 {
     let opening = open_tape(tape);
@@ -68,7 +69,7 @@ fn run_whole(tape: &[u8], out: &mut [u64]) -> Ran
 
 // The same, with demand 3: where the opening is accepted and the list is long enough, the store is what the history says of the tape's commands and their answers.
 pub fn run(tape: &[u8], out: &mut [u64]) -> Ran
-    ensures ran { result ≡ ran tape.now (length out.old) }
+    ensures ran { RunOf tape.now (length out.old) result }
     ensures out { out.new ≡ ran_out tape.now out.old }
     ensures history { TapeClaims tape.now result }
 {

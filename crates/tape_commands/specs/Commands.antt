@@ -1,12 +1,13 @@
 -- The commands of a tape, one after the other. Assumes nothing.
 use Rattle.std.specs.Prelude.{ℕ, ◌*◌, ◌≡◌, true, List, ◌++◌, length, drop}
-use Rattle.metadata.specs.Sound.{sound, run}
+use Rattle.metadata.specs.Model.{run}
+use Rattle.metadata.specs.Stored.{view, sound}
 use Rattle.metadata.specs.declared.Store.{Store}
 use Rattle.reading.specs.Reader.{read_from, tape_answers}
 use Rattle.answer_numbers.specs.Numbers.{numbers}
 
--- what the commands from a place on leave: the final store, which is sound, and their answers at the start of the list, whose rest is as it was
+-- what the commands from a place on leave: the rows that they lead to, in a store that is sound, and their answers at the start of the list, whose rest is as it was
 pub record Done (l : List ℕ) (s₀ : Store) (at₀ : ℕ) (out₀ : List ℕ) (s : Store) (out : List ℕ) : Type 0 where
-  pub store : s ≡ run s₀ (read_from l at₀).commands
+  pub rows : view s ≡ run (view s₀) (read_from l at₀).commands
   pub sounds : sound s ≡ true
-  pub answered : out ≡ numbers (tape_answers s₀ (read_from l at₀)) ++ drop (4 * length (tape_answers s₀ (read_from l at₀))) out₀
+  pub answered : out ≡ numbers (tape_answers (view s₀) (read_from l at₀)) ++ drop (4 * length (tape_answers (view s₀) (read_from l at₀))) out₀

@@ -1,7 +1,7 @@
 #![tactic(auto)]
 
 // The commands of a tape behind its opening, one after the other, their answers written as numbers.
-ghost use Rattle.metadata.specs.Sound.{sound};
+ghost use Rattle.metadata.specs.Stored.{sound};
 ghost use Rattle.reading.specs.Reader.{read_from, lines};
 ghost use Rattle.std.specs.Prelude.{◌≡◌, true, ◌*◌, ◌≤◌, length};
 ghost use Rattle.tape_commands.specs.Commands.{Done};

@@ -1,5 +1,5 @@
 use Rattle.std.specs.Prelude.{◌-◌, length}
-use Rattle.metadata.specs.Model.{view_nodes}
+use Rattle.metadata.specs.Stored.{view_nodes}
 use Rattle.metadata.specs.Rooms.{initial_replication_factor}
 use Rattle.choice.proofs.Picking.{Picking}
 use Rattle.choice.proofs.choose.Given as goal

@@ -1,5 +1,5 @@
 -- Open without it: which placement `get` found. `stored_got` takes the value behind a reference (`λ q. q.now`) as an argument, which the goal does not name.
-use Rattle.metadata.specs.Model.{view_placements}
+use Rattle.metadata.specs.Stored.{view_placements}
 use Rattle.placements.proofs.Looked.{stored_got}
 use Rattle.placements.proofs.stored_placement.Goals as goal
 

@@ -1,7 +1,7 @@
 -- What the closure says of each row is not found by itself: the law takes it as a premise.
 use Rattle.std.proofs.Common.{rules, tests}
 use Rattle.laws.proofs.Found.{row_from_find}
-use Rattle.metadata.specs.Model.{view_tablets}
+use Rattle.metadata.specs.Stored.{view_tablets}
 use Rattle.metadata.specs.Tables.{group_key, blank_tablet}
 use Rattle.retirements.proofs.tablet_of_group.Goals as goal
 

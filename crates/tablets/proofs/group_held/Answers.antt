@@ -1,7 +1,7 @@
 -- What the closure says of each row is not found by itself: the law takes it as a premise.
 use Rattle.std.proofs.Common.{rules, tests}
 use Rattle.laws.proofs.Found.{has_from_any}
-use Rattle.metadata.specs.Model.{view_tablets}
+use Rattle.metadata.specs.Stored.{view_tablets}
 use Rattle.metadata.specs.Tables.{group_key}
 use Rattle.tablets.proofs.group_held.Goals as goal
 

@@ -2,7 +2,8 @@
 use Rattle.std.proofs.Common.{◌∙◌}
 use Rattle.laws.proofs.Fills.{filled_is}
 use Rattle.metadata.specs.Rooms.{replica_room}
-use Rattle.metadata.specs.Tables.{same_replica, zero_replica}
+use Rattle.metadata.specs.Tables.{same_replica}
+use Rattle.metadata.specs.Zeros.{zero_replica}
 use Rattle.text.specs.Texts.{all_zero}
 use Rattle.metadata.proofs.DesiredReplicaPlacement.no_replicas.Goals as goal
 

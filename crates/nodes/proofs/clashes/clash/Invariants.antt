@@ -1,5 +1,5 @@
 use Rattle.std.proofs.Common.{◌≡◌, None}
-use Rattle.metadata.specs.Model.{view_nodes}
+use Rattle.metadata.specs.Stored.{view_nodes}
 use Rattle.nodes.proofs.Endpoints.{Fields, Rows}
 use Rattle.nodes.proofs.clashes.clash.Given as goal
 

@@ -1,4 +1,4 @@
-use Rattle.metadata.specs.Model.{view_placements}
+use Rattle.metadata.specs.Stored.{view_placements}
 use Rattle.metadata.proofs.Each.{EachFrom}
 use Rattle.nodes.specs.Steps.{expected_of}
 use Rattle.nodes.proofs.lifecycle.still_expected.Given as goal

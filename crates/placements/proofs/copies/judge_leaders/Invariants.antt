@@ -1,4 +1,4 @@
-use Rattle.metadata.specs.Model.{view_nodes}
+use Rattle.metadata.specs.Stored.{view_nodes}
 use Rattle.metadata.specs.Placements.{judge_leader}
 use Rattle.metadata.proofs.Each.{EachFrom}
 use Rattle.placements.proofs.copies.judge_leaders.Given as goal

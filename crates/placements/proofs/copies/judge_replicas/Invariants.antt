@@ -1,4 +1,4 @@
-use Rattle.metadata.specs.Model.{view_nodes, view_retirements}
+use Rattle.metadata.specs.Stored.{view_nodes, view_retirements}
 use Rattle.metadata.specs.Placements.{judge_replica}
 use Rattle.placements.proofs.Hosting.{Hosting, host_of}
 use Rattle.placements.proofs.copies.judge_replicas.Given as goal

@@ -1,0 +1,57 @@
+-- A whole tape: what its run leaves and writes. Assumes nothing.
+use Rattle.std.specs.Prelude.{ℕ, ◌≡◌, true, cond, List, [], ◌∷◌, ◌++◌, take, Option, Some, Result, OnOk, ◌⊎◌}
+use Rattle.std.specs.Io.KnownBytes.{Consumes, Appends, IsAtEnd}
+use Rattle.chunks.specs.Chunks.{lines_text}
+use Rattle.feeding.specs.declared.End.{End}
+use Rattle.feeding.specs.declared.End.TheVariants as H
+use Rattle.metadata.specs.Answers.{is_applied}
+use Rattle.metadata.specs.Claims.{Claims}
+use Rattle.metadata.specs.History.{begun}
+use Rattle.metadata.specs.Model.{answers}
+use Rattle.metadata.specs.Stored.{view, sound}
+use Rattle.metadata.specs.declared.Answer.{Answer}
+use Rattle.metadata.specs.declared.Store.{Store}
+use Rattle.reading.specs.Places.{Opened}
+use Rattle.reading.specs.Reader.{read_from, tables_of, group_of, body_at, open_tape}
+use Rattle.tape.specs.Tape.{outcome, final_store}
+
+-- a refused opening is line 0
+abbrev pub first_line : List ℕ → ℕ
+first_line l = cond (is_applied (open_tape l).answer) 1 0
+
+-- the lines of a tape's answers
+abbrev pub tape_text : List ℕ → List ℕ
+tape_text l = lines_text (first_line l) (outcome l)
+
+-- how a tape ends: with a last answer, which is 40, or with none, unless its opening is refused
+abbrev pub ended_by : List Answer → End
+ended_by [] = H.Whole
+ended_by (a ∷ l) = H.Stopped
+
+abbrev pub end_of_tape : List ℕ → End
+end_of_tape l = cond (is_applied (open_tape l).answer) (ended_by (read_from l (body_at l)).stop) H.Stopped
+
+-- The tape l was run: the store that is left holds its final rows and is sound, and its lines, all of them and nothing else, were written. Where its opening is accepted, the history says all that it says of the tape's commands and their answers.
+pub record Ended (l : List ℕ) (how : End) (s : Store) (held now : Option (List ℕ)) : Type 0 where
+  pub rows : view s ≡ final_store l
+  pub sounds : sound s ≡ true
+  pub wrote : Appends held now (tape_text l)
+  pub how_ended : how ≡ end_of_tape l
+  pub history : is_applied (open_tape l).answer ≡ true → Claims (begun (tables_of l) (group_of l)) (read_from l (body_at l)).commands (answers (open_tape l).rows (read_from l (body_at l)).commands) (view s)
+
+-- `tape` was read, and the tape was run as `tape` says, and as every tape says that `tape` is the beginning of and that the input may have
+pub record Ran (how : End) (s : Store) (unread after held now : Option (List ℕ)) : Type 0 where
+  pub tape : List ℕ
+  pub read : Consumes unread after tape
+  pub ended : Ended tape how s held now
+  pub longer : (more : List ℕ) → after ≡ Some more → Ended (tape ++ more) how s held now
+
+-- a beginning of a tape's lines was written
+pub record Beginning (l : List ℕ) (held now : Option (List ℕ)) : Type 0 where
+  pub count : ℕ
+  pub wrote : Appends held now (take count (tape_text l))
+
+-- the opening was read: what is at hand has it whole, or the input is at its end
+pub record OpeningRead {V E : Type 0} (now : List ℕ) (unread after : Option (List ℕ)) (result : Result V E) : Type 0 where
+  pub read : Consumes unread after now
+  pub enough : OnOk result (Opened now ⊎ IsAtEnd after)

@@ -1,0 +1,5 @@
+-- The laws that belong to no one function. Assumes nothing.
+pub mod Parts
+pub mod Frames
+pub mod Zero
+pub mod Once

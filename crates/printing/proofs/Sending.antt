@@ -1,0 +1,39 @@
+-- A text that is sent in several writes. Assumes nothing.
+use Rattle.std.proofs.Common.{◌≡◌, ℕ, ◌+◌, ◌-◌, ◌≤◌, List, ◌++◌, length, take, drop, sym, ap, ◌∙◌, subst, true≢false, arith, take-add, take_all, length-drop}
+use Rattle.std.specs.Prelude.{Option, Result, Ok, Err, IsErr, OnOk}
+use Rattle.std.specs.Io.KnownBytes.{Keeps, Appends}
+use Rattle.std.proofs.KnownBytes.{Appends-nil, Appends-trans, Appends-kept}
+use Rattle.printing.specs.Sent.{Sent}
+
+-- the first `done` bytes were written
+pub record Sending (old new : Option (List ℕ)) (text : List ℕ) (done : ℕ) : Type 0 where
+  pub within : done ≤ length text
+  pub wrote : Appends old new (take done text)
+
+pub send_start : (old : Option (List ℕ)) (text : List ℕ) → Sending old old text 0
+send_start old text = record { within = omega arith; wrote = Appends-nil old }
+
+module _ (old new : Option (List ℕ)) (text : List ℕ) (done : ℕ) (s : Sending old new text done) where
+  pub send_next : (next : Option (List ℕ)) (put : ℕ) → put ≤ length (take (length text - done) (drop done text)) → Appends new next (take put (take (length text - done) (drop done text))) →
+      Sending old next text (done + put)
+  send_next next put h a =
+      let rest : take (length text - done) (drop done text) ≡ drop done text = take_all (length text - done) (drop done text) (omega (arith, length-drop done text)) in
+      record {
+        within = omega (arith, length-drop done text, s.within, ap length rest);
+        wrote =
+            subst (Appends old next) (ap (λ (x : List ℕ). take done text ++ take put x) rest ∙ sym (take-add done put text))
+            (Appends-trans old new next (take done text) (take put (take (length text - done) (drop done text))) s.wrote a);
+      }
+
+  pub send_ended : {V E : Type 0} (v : V) → length text ≤ done → Sent {V = V} {E = E} old new text (Ok v)
+  send_ended v h = record { count = done; within = s.within; wrote = s.wrote; all = omega (arith, s.within) }
+
+  pub send_failed : {V E : Type 0} (r : Result V E) (next : Option (List ℕ)) → IsErr r → Keeps new next → Sent old next text r
+  send_failed {V} {E} r next f k = record { count = done; within = s.within; wrote = Appends-kept old new next (take done text) s.wrote k; all = none r f }
+    where
+      none : (x : Result V E) → IsErr x → OnOk x (done ≡ length text)
+      none (Ok y) e = absurd (true≢false (sym e))
+      none (Err y) e = tt
+
+-- for `using` on `emit`: what its steps ask for
+pub ruleset sending = (send_start, send_next, send_ended, send_failed)
