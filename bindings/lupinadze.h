@@ -7,7 +7,7 @@
  * Answers: four numbers for each, in the order of the tape: the answer's number and its three operands, as document 01 has them. Line numbers are not written. The first
  * answer is line 1, the second line 2; but where the opening is refused its answer is the only one and is line 0. That is so for 10 10 0 0 and 40 2 0 0, which no command gets.
  *
- * Stack: 450 KiB below the caller's frame (measured by bench/run, which prints it again). */
+ * Stack: 64 KiB below the caller's frame (measured by bench/run, which prints it again). */
 #ifndef LUPINADZE_H
 #define LUPINADZE_H
 

@@ -1,8 +1,7 @@
 // Reason 10: whether an opening is admitted.
-ghost use Rattle.std.specs.Prelude.{◌≡◌, false, cond, leb, take};
+ghost use Rattle.std.specs.Prelude.{◌≡◌};
 ghost use Rattle.laws.specs.Bytes.{is_zero};
 ghost use Rattle.laws.specs.Lists.{any, none_twice};
-ghost use Rattle.metadata.specs.Rooms.{table_room};
 ghost use Rattle.metadata.specs.Commands.{opening_admitted, same_table_id};
 
 use lists::none_twice;
@@ -36,12 +35,4 @@ pub fn opening_admitted(rows: &[TableRow]) -> bool
         && !any_zero_id(rows)
         && no_table_twice(rows)
         && !any_without_tablets(rows)
-}
-
-// The same of the first `count` rows, where so many there can be.
-// The opening brings a count beside the rows, and one above the room is refused.
-pub fn opening_rows_admitted(rows: &[TableRow; TABLE_ROOM], count: usize) -> bool
-    ensures { result ≡ cond (leb count table_room) (opening_admitted (take count rows.now)) false }
-{
-    count <= TABLE_ROOM && opening_admitted(&rows[..count])
 }

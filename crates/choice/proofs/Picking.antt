@@ -1,11 +1,12 @@
 -- The choice as a loop that takes one node more each time. Assumes nothing.
-use Rattle.std.specs.Prelude.{◌≡◌, ℕ, suc, ◌+◌, ◌-◌, ◌≤◌, ◌<◌, List, [], ◌∷◌, ◌++◌, Some, None, length, map}
-use Rattle.std.proofs.Common.{refl, sym, ◌∙◌, arith}
+use Rattle.std.specs.Prelude.{◌≡◌, Bool, false, leb, ℕ, suc, ◌+◌, ◌-◌, ◌≤◌, ◌<◌, List, [], ◌∷◌, ◌++◌, Some, None, length, map}
+use Rattle.std.proofs.Common.{rules, refl, sym, ◌∙◌, arith}
 use denote.Ref.{Bor}
 use lib.ListN.{length-append}
 use Rattle.std.proofs.lemmas.List.{map-append}
 use Rattle.metadata.specs.Labels.{best_of, choose_from, choose}
 use Rattle.metadata.specs.Rooms.{initial_replication_factor}
+use Rattle.rows.specs.Rows.{node_row}
 use Rattle.metadata.specs.declared.NodeDescriptor.{NodeDescriptor}
 
 -- ---- the definition: one node more, none left, or no place left
@@ -22,18 +23,18 @@ module _ (s l : List NodeDescriptor) where
   unfolding choose_from
   ends = refl
 
--- f are chosen of the nodes l, each behind a reference, and with what is to come they are the whole choice
-pub record Picking (l : List NodeDescriptor) (f : List (Bor NodeDescriptor)) : Type 0 where
+-- f are chosen of the nodes l, each a row behind a reference, and with what is to come they are the whole choice
+pub record Picking (l : List NodeDescriptor) (f : List (Bor (List ℕ))) : Type 0 where
   pub within : length f ≤ initial_replication_factor
-  pub rest : choose_from (initial_replication_factor - length f) (map (λ n. n.now) f) l ≡ choose l
+  pub rest : choose_from (initial_replication_factor - length f) (map (λ n. node_row n.now) f) l ≡ choose l
 
 module _ {l : List NodeDescriptor} where
   pub pick_start : Picking l []
   pick_start = record { within = omega arith; rest = refl }
 
-  module _ {f : List (Bor NodeDescriptor)} (p : Picking l f) where
-    pub pick_end : initial_replication_factor ≤ length f → map (λ n. n.now) f ≡ choose l
-    pick_end h = let z : initial_replication_factor - length f ≡ 0 = omega arith in sym (ends (map (λ n. n.now) f) l) ∙ rw z at p.rest
+  module _ {f : List (Bor (List ℕ))} (p : Picking l f) where
+    pub pick_end : initial_replication_factor ≤ length f → map (λ n. node_row n.now) f ≡ choose l
+    pick_end h = let z : initial_replication_factor - length f ≡ 0 = omega arith in sym (ends (map (λ n. node_row n.now) f) l) ∙ rw z at p.rest
 
     module _ (h : length f < initial_replication_factor) where
       abbrev left : ℕ
@@ -42,16 +43,23 @@ module _ {l : List NodeDescriptor} where
       one_more : initial_replication_factor - length f ≡ suc left
       one_more = omega arith
 
-      pub pick_more : (n : Bor NodeDescriptor) → Some n.now ≡ best_of (map (λ m. m.now) f) None l → Picking l (f ++ n ∷ [])
+      pub pick_more : (n : Bor (List ℕ)) → Some (node_row n.now) ≡ best_of (map (λ m. node_row m.now) f) None l → Picking l (f ++ n ∷ [])
       pick_more n e =
           let m : length (f ++ n ∷ []) ≡ length f + 1 = simp length-append in
           record {
             within = omega arith;
-            rest = rw (m, map-append) (sym (goes_on (map (λ m. m.now) f) l left n.now (sym e)) ∙ rw one_more at p.rest);
+            rest = rw (m, map-append) (sym (goes_on (map (λ m. node_row m.now) f) l left (node_row n.now) (sym e)) ∙ rw one_more at p.rest);
           }
 
-      pub pick_stop : None ≡ best_of (map (λ m. m.now) f) None l → map (λ n. n.now) f ≡ choose l
-      pick_stop e = sym (stops (map (λ m. m.now) f) l left (sym e)) ∙ rw one_more at p.rest
+      pub pick_stop : None ≡ best_of (map (λ m. node_row m.now) f) None l → map (λ n. node_row n.now) f ≡ choose l
+      pick_stop e = sym (stops (map (λ m. node_row m.now) f) l left (sym e)) ∙ rw one_more at p.rest
 
--- for `using` on `choose`: its loop, which starts, picks one more, and ends with the room or with no node left
-pub ruleset picking = (pick_start, pick_end, pick_more, pick_stop)
+pub room_left : {A : Type 0} (f : List A) {b : Bool} → b ≡ leb initial_replication_factor (length f) → b ≡ false → length f < initial_replication_factor
+room_left f h e = search rules
+
+-- a list with one more is nearer to the room
+pub nearer : {A : Type 0} (f : List A) (x : A) {g : List A} → g ≡ f ++ x ∷ [] → length f < initial_replication_factor → initial_replication_factor - length g < initial_replication_factor - length f
+nearer f x e h = rw (e, length-append) (omega arith)
+
+-- for `using` on `choose`: its loop, which starts, and ends with the room or with no node left
+pub ruleset picking = (pick_start, pick_end, pick_stop)

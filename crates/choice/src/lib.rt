@@ -4,29 +4,31 @@
 ghost use Rattle.laws.specs.Lists.{any};
 ghost use Rattle.metadata.specs.Answers.{is_applied};
 ghost use Rattle.metadata.specs.Labels.{beats, best_of, better, candidate, choose, id_at, judge_picking, locality_gain, policy_of, select_initial_placement, step_best};
-ghost use Rattle.metadata.specs.Stored.{view_nodes};
+ghost use Rattle.rows.specs.Rows.{node_row, node_rows};
 ghost use Rattle.std.specs.Option.{option_map};
 ghost use Rattle.std.specs.Prelude.{◌≡◌, ◌≤◌, [], ◌∷◌, false, None, eqb, length, map};
 
 use labels::{NodeList, distinct, new_label};
 use metadata::{
-    Answer, Domain, INITIAL_REPLICATION_FACTOR, InitialPlacement, NodeDescriptor, NodeId, Nodes,
-    PlacementPolicy,
+    Answer, Domain, INITIAL_REPLICATION_FACTOR, InitialPlacement, NodeId, PlacementPolicy,
+    REPLICA_ROOM,
 };
+use rows::{BLANK_NODE, NodeBytes, is_active, node_id};
+use text::Optional;
 
 // The nodes chosen so far, in order of choice.
 type Chosen<'a> = NodeList<'a, INITIAL_REPLICATION_FACTOR>;
 
-fn contains(chosen: &[&NodeDescriptor], id: NodeId) -> bool
-    ensures { result ≡ any (λ n. eqb n.now.node_id.0 id.0) chosen.now }
+fn contains(chosen: &[&NodeBytes], id: NodeId) -> bool
+    ensures { result ≡ any (λ n. eqb (node_row n.now).node_id.0 id.0) chosen.now }
 {
-    chosen.iter().any(|n| n.node_id == id)
+    chosen.iter().any(|n| node_id(n) == id)
 }
 
 // 0 to 3: what the node's labels add to those of the chosen nodes.
 #[tactic(auto, unfolding(metadata::specs::Labels::locality_gain))]
-fn locality_gain(chosen: &[&NodeDescriptor], n: &NodeDescriptor) -> usize
-    ensures { result ≡ locality_gain (map (λ n. n.now) chosen.now) n.now }
+fn locality_gain(chosen: &[&NodeBytes], n: &NodeBytes) -> usize
+    ensures { result ≡ locality_gain (map (λ n. node_row n.now) chosen.now) (node_row n.now) }
 {
     new_label(Domain::Region, n, chosen)
         + new_label(Domain::Zone, n, chosen)
@@ -35,25 +37,25 @@ fn locality_gain(chosen: &[&NodeDescriptor], n: &NodeDescriptor) -> usize
 
 // The higher gain, and the lower id on a tie.
 #[tactic(auto, unfolding(metadata::specs::Labels::better))]
-fn is_better(chosen: &[&NodeDescriptor], a: &NodeDescriptor, b: &NodeDescriptor) -> bool
-    ensures { result ≡ better (map (λ n. n.now) chosen.now) a.now b.now }
+fn is_better(chosen: &[&NodeBytes], a: &NodeBytes, b: &NodeBytes) -> bool
+    ensures { result ≡ better (map (λ n. node_row n.now) chosen.now) (node_row a.now) (node_row b.now) }
 {
     let x = locality_gain(chosen, a);
     let y = locality_gain(chosen, b);
-    y < x || x == y && a.node_id < b.node_id
+    y < x || x == y && node_id(a) < node_id(b)
 }
 
 // Active, and not chosen yet.
-#[tactic(auto, unfolding(metadata::specs::Labels::candidate), using(labels::proofs::Lent::any_map))]
-fn is_candidate(chosen: &[&NodeDescriptor], n: &NodeDescriptor) -> bool
-    ensures { result ≡ candidate (map (λ n. n.now) chosen.now) n.now }
+#[tactic(auto, unfolding(metadata::specs::Labels::candidate))]
+fn is_candidate(chosen: &[&NodeBytes], n: &NodeBytes) -> bool
+    ensures { result ≡ candidate (map (λ n. node_row n.now) chosen.now) (node_row n.now) }
 {
-    n.is_active() && !contains(chosen, n.node_id)
+    is_active(n) && !contains(chosen, node_id(n))
 }
 
 // Any node is better than none.
-fn beats(chosen: &[&NodeDescriptor], best: Option<&NodeDescriptor>, n: &NodeDescriptor) -> bool
-    ensures { result ≡ beats (map (λ n. n.now) chosen.now) (option_map (λ b. b.now) best.entry) n.now }
+fn beats(chosen: &[&NodeBytes], best: Option<&NodeBytes>, n: &NodeBytes) -> bool
+    ensures { result ≡ beats (map (λ n. node_row n.now) chosen.now) (option_map (λ b. node_row b.now) best.entry) (node_row n.now) }
 {
     match best {
         Some(b) => is_better(chosen, n, b),
@@ -64,11 +66,11 @@ fn beats(chosen: &[&NodeDescriptor], best: Option<&NodeDescriptor>, n: &NodeDesc
 // The best so far, after one more node.
 #[tactic(auto, unfolding(metadata::specs::Labels::step_best))]
 fn step_best<'a>(
-    chosen: &[&NodeDescriptor],
-    best: Option<&'a NodeDescriptor>,
-    n: &'a NodeDescriptor,
-) -> Option<&'a NodeDescriptor>
-    ensures { option_map (λ b. b.now) result ≡ step_best (map (λ n. n.now) chosen.now) (option_map (λ b. b.now) best.entry) n.now }
+    chosen: &[&NodeBytes],
+    best: Option<&'a NodeBytes>,
+    n: &'a NodeBytes,
+) -> Option<&'a NodeBytes>
+    ensures { option_map (λ b. node_row b.now) result ≡ step_best (map (λ n. node_row n.now) chosen.now) (option_map (λ b. node_row b.now) best.entry) (node_row n.now) }
 {
     if is_candidate(chosen, n) && beats(chosen, best, n) {
         Some(n)
@@ -80,11 +82,11 @@ fn step_best<'a>(
 // The best of the nodes that are not chosen yet, if there is one.
 // A loop of the shape of `labels::distinct`: this keeps a node, that adds up numbers.
 #[tactic(auto, unfolding(metadata::specs::Labels::best_of))]
-fn best_of<'a>(chosen: &[&NodeDescriptor], nodes: &'a Nodes) -> Option<&'a NodeDescriptor>
-    ensures { option_map (λ b. b.now) result ≡ best_of (map (λ n. n.now) chosen.now) None (view_nodes nodes.now) }
+fn best_of<'a>(chosen: &[&NodeBytes], nodes: &'a [NodeBytes]) -> Option<&'a NodeBytes>
+    ensures { option_map (λ b. node_row b.now) result ≡ best_of (map (λ n. node_row n.now) chosen.now) None (node_rows nodes.now) }
 {
     let mut best = None;
-    for n in nodes.used() {
+    for n in nodes {
         best = step_best(chosen, best, n);
     }
     best
@@ -92,10 +94,10 @@ fn best_of<'a>(chosen: &[&NodeDescriptor], nodes: &'a Nodes) -> Option<&'a NodeD
 
 // Up to three Active nodes, each time the best; it ends where no node is left.
 #[tactic(auto, using(crate::proofs::Picking::picking))]
-fn choose(nodes: &Nodes) -> Chosen<'_>
-    ensures { map (λ n. n.now) result ≡ choose (view_nodes nodes.now) }
+fn choose(nodes: &[NodeBytes]) -> Chosen<'_>
+    ensures { map (λ n. node_row n.now) result ≡ choose (node_rows nodes.now) }
 {
-    let mut chosen = NodeList::new(&nodes.rows[0]);
+    let mut chosen = NodeList::new(&BLANK_NODE);
     while !chosen.is_full() {
         let Some(n) = best_of(chosen.used(), nodes) else {
             return chosen;
@@ -106,39 +108,41 @@ fn choose(nodes: &Nodes) -> Chosen<'_>
 }
 
 // The id of the chosen node at place i, 0 where none is: the answer has three places, and one that is empty is 0.
-fn id_at(chosen: &[&NodeDescriptor], i: usize) -> NodeId
-    ensures { result ≡ id_at (map (λ n. n.now) chosen.now) i }
+fn id_at(chosen: &[&NodeBytes], i: usize) -> NodeId
+    ensures { result ≡ id_at (map (λ n. node_row n.now) chosen.now) i }
 {
     match chosen.get(i) {
-        Some(n) => n.node_id,
+        Some(n) => node_id(n),
         None => NodeId(0),
     }
 }
 
 // Their ids, 0 in the places that are not filled.
-fn ids_in(chosen: &[&NodeDescriptor]) -> [NodeId; INITIAL_REPLICATION_FACTOR]
-    ensures { result ≡ id_at (map (λ n. n.now) chosen.now) 0 ∷ id_at (map (λ n. n.now) chosen.now) 1 ∷ id_at (map (λ n. n.now) chosen.now) 2 ∷ [] }
+fn ids_in(chosen: &[&NodeBytes]) -> [NodeId; INITIAL_REPLICATION_FACTOR]
+    ensures { result ≡ id_at (map (λ n. node_row n.now) chosen.now) 0 ∷ id_at (map (λ n. node_row n.now) chosen.now) 1 ∷ id_at (map (λ n. node_row n.now) chosen.now) 2 ∷ [] }
 {
     [id_at(chosen, 0), id_at(chosen, 1), id_at(chosen, 2)]
 }
 
 // As many copies and distinct labels as the chosen nodes give, no class and no leaders.
-fn policy_of(chosen: &[&NodeDescriptor]) -> PlacementPolicy
+fn policy_of(chosen: &[&NodeBytes]) -> PlacementPolicy
     requires { length chosen.now ≤ INITIAL_REPLICATION_FACTOR }
-    ensures { result ≡ policy_of (map (λ n. n.now) chosen.now) }
+    ensures { result ≡ policy_of (map (λ n. node_row n.now) chosen.now) }
 {
     PlacementPolicy {
         replication_factor: chosen.len() as u32,
         min_distinct_regions: distinct(Domain::Region, chosen) as u32,
         min_distinct_zones: distinct(Domain::Zone, chosen) as u32,
         min_distinct_racks: distinct(Domain::Rack, chosen) as u32,
-        ..PlacementPolicy::zero()
+        required_storage_class: Optional::none(),
+        preferred_leader_count: 0,
+        preferred_leader_nodes: [NodeId(0); REPLICA_ROOM],
     }
 }
 
 #[tactic(auto, unfolding(metadata::specs::Labels::select_initial_placement))]
-pub fn select_initial_placement(nodes: &Nodes) -> InitialPlacement
-    ensures { result ≡ select_initial_placement (view_nodes nodes.now) }
+pub fn select_initial_placement(nodes: &[NodeBytes]) -> InitialPlacement
+    ensures { result ≡ select_initial_placement (node_rows nodes.now) }
 {
     let list = choose(nodes);
     let chosen = list.used();
@@ -151,8 +155,8 @@ pub fn select_initial_placement(nodes: &Nodes) -> InitialPlacement
 
 // The answer of picking, which changes nothing: it is never Applied, so there is no way on for a `Result` to tell.
 #[tactic(auto, unfolding(metadata::specs::Labels::judge_picking, metadata::specs::Answers::refuse, metadata::specs::Answers::and_then))]
-pub fn judge_picking(nodes: &Nodes) -> Answer
-    ensures answer { result ≡ judge_picking (view_nodes nodes.now) }
+pub fn judge_picking(nodes: &[NodeBytes]) -> Answer
+    ensures answer { result ≡ judge_picking (node_rows nodes.now) }
     ensures refused { is_applied result ≡ false }
 {
     let list = choose(nodes);

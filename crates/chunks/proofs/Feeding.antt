@@ -1,16 +1,15 @@
 -- A chunk of the tape, command by command. Assumes nothing.
 use Rattle.std.proofs.Common.{◌≡◌, ℕ, ◌+◌, ◌-◌, ◌<◌, ◌≤◌, true, false, List, [], ◌∷◌, ◌++◌, length, sym, refl, ap, ◌∙◌, subst, ap₂, append_assoc, append-nil, arith}
 use Rattle.laws.proofs.ListLaws.{never}
+use Rattle.layout.specs.Layout.{store_of, sound, Stepped}
 use Rattle.lines.specs.Lines.{line_text}
 use Rattle.metadata.specs.Answers.{reported}
 use Rattle.metadata.specs.declared.Command.{Command}
 use Rattle.metadata.specs.Model.{StoreRows, step, run, answers}
-use Rattle.metadata.specs.Stored.{view, sound, Stepped}
 use Rattle.metadata.specs.declared.Answer.{Answer}
 use Rattle.metadata.specs.declared.Answer.TheVariants as A
 use Rattle.metadata.specs.declared.kinds.TapeFault.TheVariants as F
 use Rattle.metadata.specs.declared.Reported.{Reported}
-use Rattle.metadata.specs.declared.Store.{Store}
 use Rattle.reading.specs.declared.Next.{Next}
 use Rattle.reading.specs.declared.Next.TheVariants as N
 use Rattle.reading.specs.Places.{Stands, none, is_whole, is_unknown, stop_of}
@@ -56,48 +55,48 @@ answers_both s (x ∷ cs) ds = ap (λ (t : List Answer). (step s x).answer ∷ t
 
 -- ---- the loop: what was run so far, and its lines
 
-pub record Feeding (l : List ℕ) (s₀ : Store) (first : ℕ) (old : List ℕ) (s : Store) (at line : ℕ) (out : List ℕ) : Type 0 where
+pub record Feeding (l : List ℕ) (s₀ : List ℕ) (first : ℕ) (old : List ℕ) (s : List ℕ) (at line : ℕ) (out : List ℕ) : Type 0 where
   pub commands : List Command
   pub stand : Stands l 0 commands at
-  pub ran : view s ≡ run (view s₀) commands
-  pub text : out ≡ old ++ lines_text first (answers (view s₀) commands)
-  pub numbered : line ≡ line_behind first (answers (view s₀) commands)
+  pub ran : store_of s ≡ run (store_of s₀) commands
+  pub text : out ≡ old ++ lines_text first (answers (store_of s₀) commands)
+  pub numbered : line ≡ line_behind first (answers (store_of s₀) commands)
   pub sounds : sound s ≡ true
   pub inside : at ≤ length l
 
-pub feed_start : (l : List ℕ) (s₀ : Store) (first : ℕ) (old : List ℕ) → sound s₀ ≡ true → Feeding l s₀ first old s₀ 0 first old
+pub feed_start : (l : List ℕ) (s₀ : List ℕ) (first : ℕ) (old : List ℕ) → sound s₀ ≡ true → Feeding l s₀ first old s₀ 0 first old
 unfolding lines_text line_behind
 feed_start l s₀ first old e =
     record { commands = []; stand = none; ran = refl; text = sym (append-nil old); numbered = refl; sounds = e; inside = omega arith }
 
-module _ (l : List ℕ) (s₀ : Store) (first : ℕ) (old : List ℕ) (s : Store) (at line : ℕ) (out : List ℕ) (k : Feeding l s₀ first old s at line out) where
+module _ (l : List ℕ) (s₀ : List ℕ) (first : ℕ) (old : List ℕ) (s : List ℕ) (at line : ℕ) (out : List ℕ) (k : Feeding l s₀ first old s at line out) where
   -- Of the loop as it goes; `fed_sound` of the crate feeding says the same of what a run left.
   pub feed_sound : sound s ≡ true
   feed_sound = k.sounds
 
   -- the line of one more answer
-  line_more : (a : Answer) (r : Reported) (new : List ℕ) → r ≡ reported a → new ≡ out ++ line_text line r → new ≡ old ++ lines_text first (answers (view s₀) k.commands ++ a ∷ [])
+  line_more : (a : Answer) (r : Reported) (new : List ℕ) → r ≡ reported a → new ≡ out ++ line_text line r → new ≡ old ++ lines_text first (answers (store_of s₀) k.commands ++ a ∷ [])
   line_more a r new e p =
       p
-      ∙ ap₂ (λ (o t : List ℕ). o ++ t) k.text (ap₂ line_text k.numbered e ∙ sym (one_line (line_behind first (answers (view s₀) k.commands)) a))
-      ∙ append_assoc old (lines_text first (answers (view s₀) k.commands)) (lines_text (line_behind first (answers (view s₀) k.commands)) (a ∷ []))
-      ∙ ap (λ (t : List ℕ). old ++ t) (sym (lines_both first (answers (view s₀) k.commands) (a ∷ [])))
+      ∙ ap₂ (λ (o t : List ℕ). o ++ t) k.text (ap₂ line_text k.numbered e ∙ sym (one_line (line_behind first (answers (store_of s₀) k.commands)) a))
+      ∙ append_assoc old (lines_text first (answers (store_of s₀) k.commands)) (lines_text (line_behind first (answers (store_of s₀) k.commands)) (a ∷ []))
+      ∙ ap (λ (t : List ℕ). old ++ t) (sym (lines_both first (answers (store_of s₀) k.commands) (a ∷ [])))
 
-  pub feed_next : (x : Next) (b m : ℕ) → x ≡ next_at l at → x ≡ N.Whole b m → (c : Command) (a : Answer) (s' : Store) (r : Reported) (new : List ℕ) →
+  pub feed_next : (x : Next) (b m : ℕ) → x ≡ next_at l at → x ≡ N.Whole b m → (c : Command) (a : Answer) (s' : List ℕ) (r : Reported) (new : List ℕ) →
       c ≡ command_at b l (at + 1) → Stepped s c s' a → r ≡ reported a → new ≡ out ++ line_text line r →
       Feeding l s₀ first old s' m (next_line line) new
   feed_next x b m q e c a s' r new f t p g =
       let here : Command = command_at b l (at + 1) in
       let d : Stepped s here s' a = subst (λ (y : Command). Stepped s y s' a) f t in
-      let told : answers (view s₀) (k.commands ++ here ∷ []) ≡ answers (view s₀) k.commands ++ a ∷ [] =
-      answers_both (view s₀) k.commands (here ∷ []) ∙ ap (λ (y : Answer). answers (view s₀) k.commands ++ y ∷ []) (ap (λ (y : StoreRows). (step y here).answer) (sym k.ran) ∙ sym d.answer) in
+      let told : answers (store_of s₀) (k.commands ++ here ∷ []) ≡ answers (store_of s₀) k.commands ++ a ∷ [] =
+      answers_both (store_of s₀) k.commands (here ∷ []) ∙ ap (λ (y : Answer). answers (store_of s₀) k.commands ++ y ∷ []) (ap (λ (y : StoreRows). (step y here).answer) (sym k.ran) ∙ sym d.answer) in
       record {
         commands = k.commands ++ here ∷ [];
         stand = stands_last k.stand (sym q ∙ e);
-        ran = d.rows ∙ ap (λ (y : StoreRows). (step y here).rows) k.ran ∙ sym (run_both (view s₀) k.commands (here ∷ []));
+        ran = d.rows ∙ ap (λ (y : StoreRows). (step y here).rows) k.ran ∙ sym (run_both (store_of s₀) k.commands (here ∷ []));
         text = line_more a r new p g ∙ ap (λ (y : List Answer). old ++ lines_text first y) (sym told);
         numbered =
-            ap next_line k.numbered ∙ sym (one_behind (line_behind first (answers (view s₀) k.commands)) a) ∙ sym (behind_both first (answers (view s₀) k.commands) (a ∷ []))
+            ap next_line k.numbered ∙ sym (one_behind (line_behind first (answers (store_of s₀) k.commands)) a) ∙ sym (behind_both first (answers (store_of s₀) k.commands) (a ∷ []))
             ∙ ap (line_behind first) (sym told);
         sounds = d.sounds;
         inside = (whole l at b m (sym q ∙ e)).fits;
@@ -105,7 +104,7 @@ module _ (l : List ℕ) (s₀ : Store) (first : ℕ) (old : List ℕ) (s : Store
 
 -- ---- the ways out: s is the store, c what the code gives
 
-module _ (l : List ℕ) (s₀ : Store) (first : ℕ) (old : List ℕ) (s : Store) (at line room : ℕ) (out : List ℕ)
+module _ (l : List ℕ) (s₀ : List ℕ) (first : ℕ) (old : List ℕ) (s : List ℕ) (at line room : ℕ) (out : List ℕ)
     (k : Feeding l s₀ first old s at line out) (c : Chunk) where
   abbrev Left : Chunk → List ℕ → Type 0
   Left x new = Fed room l s₀ first old x s new
@@ -114,8 +113,8 @@ module _ (l : List ℕ) (s₀ : Store) (first : ℕ) (old : List ℕ) (s : Store
   stand p = record { at = at; line = line; pause = p }
 
   -- no more was written
-  silent : out ≡ old ++ lines_text first (answers (view s₀) k.commands ++ [])
-  silent = k.text ∙ ap (λ (y : List Answer). old ++ lines_text first y) (sym (append-nil (answers (view s₀) k.commands)))
+  silent : out ≡ old ++ lines_text first (answers (store_of s₀) k.commands ++ [])
+  silent = k.text ∙ ap (λ (y : List Answer). old ++ lines_text first y) (sym (append-nil (answers (store_of s₀) k.commands)))
 
   -- the output is full
   pub feed_full : c ≡ stand P.Full → room - length out < line_room → length out ≤ room → Left c out
@@ -171,7 +170,7 @@ module _ (l : List ℕ) (s₀ : Store) (first : ℕ) (old : List ℕ) (s : Store
           ran = k.ran;
           text =
               line_more l s₀ first old s at line out k (A.BadTape F.Unknown b) r new p a
-              ∙ ap (λ (y : Next). old ++ lines_text first (answers (view s₀) k.commands ++ stop_of y)) (sym z);
+              ∙ ap (λ (y : Next). old ++ lines_text first (answers (store_of s₀) k.commands ++ stop_of y)) (sym z);
           line = k.numbered;
           sounds = k.sounds;
           inside = k.inside;

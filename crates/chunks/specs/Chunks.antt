@@ -1,12 +1,11 @@
 -- A chunk of the tape: what was run of it, and the lines of its answers. Assumes nothing.
 use Rattle.std.specs.Prelude.{◌≡◌, ℕ, Bool, ◌+◌, ◌%◌, ◌^◌, ◌<◌, ◌≤◌, true, false, List, [], ◌∷◌, ◌++◌, length}
+use Rattle.layout.specs.Layout.{store_of, sound}
 use Rattle.lines.specs.Lines.{line_text}
 use Rattle.metadata.specs.Answers.{reported}
 use Rattle.metadata.specs.declared.Command.{Command}
 use Rattle.metadata.specs.Model.{run, answers}
-use Rattle.metadata.specs.Stored.{view, sound}
 use Rattle.metadata.specs.declared.Answer.{Answer}
-use Rattle.metadata.specs.declared.Store.{Store}
 use Rattle.reading.specs.Places.{Stands, stop_of, is_whole, is_unknown}
 use Rattle.reading.specs.Reader.{next_at}
 use Rattle.reading.specs.declared.Next.{Next}
@@ -51,14 +50,14 @@ last_of P.Stopped x = stop_of x
 last_of P.Short x = []
 
 -- A chunk l was run on a store s, its lines put behind what stood in a text with this room; s' is the store that is left: its rows are those that the commands leave, and it is sound.
-pub record Fed (room : ℕ) (l : List ℕ) (s : Store) (first : ℕ) (old : List ℕ) (c : Chunk) (s' : Store) (new : List ℕ) : Type 0 where
+pub record Fed (room : ℕ) (l : List ℕ) (s : List ℕ) (first : ℕ) (old : List ℕ) (c : Chunk) (s' : List ℕ) (new : List ℕ) : Type 0 where
   -- which were run: the first that stand there, and `at` is the place behind the last
   pub commands : List Command
   pub stand : Stands l 0 commands c.at
-  pub ran : view s' ≡ run (view s) commands
+  pub ran : store_of s' ≡ run (store_of s) commands
   -- what is written is their lines, and that of a byte that is no command where it stops at one
-  pub text : new ≡ old ++ lines_text first (answers (view s) commands ++ last_of c.pause (next_at l c.at))
-  pub line : c.line ≡ line_behind first (answers (view s) commands)
+  pub text : new ≡ old ++ lines_text first (answers (store_of s) commands ++ last_of c.pause (next_at l c.at))
+  pub line : c.line ≡ line_behind first (answers (store_of s) commands)
   pub sounds : sound s' ≡ true
   pub inside : c.at ≤ length l
   -- it leaves a whole command only where a line has no room, and stops only at a byte that is no command

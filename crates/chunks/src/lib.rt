@@ -2,13 +2,13 @@
 
 // A chunk of the tape: its whole commands run, a line for each answer in a lent slice.
 ghost use Rattle.chunks.specs.Chunks.{Fed};
-ghost use Rattle.metadata.specs.Stored.{sound};
+ghost use Rattle.layout.specs.Layout.{sound};
 ghost use Rattle.chunks.specs.declared.Pause.TheVariants.{Short};
 ghost use Rattle.std.specs.Prelude.{◌≡◌, true};
 
 use arrayvec::ArrayString;
 use lines::{LINE_ROOM, put_line};
-use metadata::{Answer, Store, TapeFault};
+use metadata::{Answer, TapeFault};
 use reading::{Next, command_at, next_at};
 use steps::step;
 
@@ -43,7 +43,7 @@ fn short(at: usize, line: u64) -> Chunk
 // a walk as `reading::count_lines` has it, with more ways out.
 #[tactic(auto, using(crate::proofs::Feeding::feeding))]
 pub fn run_chunk<const N: usize>(
-    store: &mut Store,
+    store: &mut [u8],
     chunk: &[u8],
     first: u64,
     out: &mut ArrayString<N>,

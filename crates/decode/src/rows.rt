@@ -11,7 +11,6 @@ use metadata::{
 };
 use numbers::{number4, number8};
 use std::array;
-use table::Row;
 
 pub fn node_at(s: &[u8], at: usize) -> NodeDescriptor
     requires { at + 305 ≤ length s.now }
@@ -139,7 +138,11 @@ pub fn tables_at(s: &[u8], at: usize, count: usize) -> [TableRow; TABLE_ROOM]
     requires { (count ≤ table_room) × (at + 12 * count ≤ length s.now) }
     ensures { take count result ≡ list_at table_at 12 count s.now at }
 {
-    let mut rows = [TableRow::zero(); TABLE_ROOM];
+    let none = TableRow {
+        table_id: TableId(0),
+        tablet_count: 0,
+    };
+    let mut rows = [none; TABLE_ROOM];
     for (i, row) in rows[..count].iter_mut().enumerate() {
         *row = table_at(s, at + 12 * i);
     }

@@ -6,50 +6,41 @@ use Rattle.row_lines.specs.RowLines.{node_line, table_line, tablet_line, retired
 use Rattle.row_lines.specs.PlacementLines.{placement_line}
 use Rattle.row_lines.specs.StoreLines.{name_line, marks_line, next_line, pick_line}
 use Rattle.metadata.specs.Labels.{select_initial_placement}
-use Rattle.metadata.specs.Stored.{view_nodes, view_tables, view_tablets, view_placements, view_retirements}
+use Rattle.metadata.specs.Model.{StoreRows, DirectoryRows, CatalogRows}
 use Rattle.metadata.specs.Tablets.{is_complete}
 use Rattle.metadata.specs.declared.TableRow.{TableRow}
-use Rattle.metadata.specs.declared.Store.{Store}
+use Rattle.metadata.specs.declared.TabletDescriptor.{TabletDescriptor}
 
--- a line for each node
-abbrev pub node_lines : Store → List (List ℕ)
-node_lines s = map node_line (view_nodes s.directory.nodes)
+-- a table's line, with what the tables and the tablets say of its completeness
+abbrev pub table_line_among : List TableRow → List TabletDescriptor → TableRow → List ℕ
+table_line_among tables tablets t = table_line (is_complete t.table_id tables tablets) t
 
--- a table's line, with what the store says of its completeness
-abbrev pub table_line_in : Store → TableRow → List ℕ
-table_line_in s t = table_line (is_complete t.table_id (view_tables s.catalog.tables) (view_tablets s.catalog.tablets)) t
+-- the directory's lines: the name, the nodes
+unfoldable pub directory_lines : DirectoryRows → List (List ℕ)
+directory_lines d = name_line d.name ∷ map node_line d.nodes
 
--- a line for each table
-abbrev pub table_lines : Store → List (List ℕ)
-table_lines s = map (table_line_in s) (view_tables s.catalog.tables)
+-- the catalog's lines: the tables, tablets, placements and retired replicas, then the marks and the next replica
+unfoldable pub catalog_lines : CatalogRows → List (List ℕ)
+catalog_lines c =
+    map (table_line_among c.tables c.tablets) c.tables
+    ++ map tablet_line c.tablets
+    ++ map placement_line c.placements
+    ++ map retired_line c.retirements
+    ++ marks_line c.marks
+    ∷ next_line c.marks
+    ∷ []
 
--- a line for each tablet
-abbrev pub tablet_lines : Store → List (List ℕ)
-tablet_lines s = map tablet_line (view_tablets s.catalog.tablets)
+-- all lines, from the first to the last: behind the directory's and the catalog's that of the first choice
+unfoldable pub dump_lines : StoreRows → List (List ℕ)
+dump_lines s = directory_lines s.directory ++ catalog_lines s.catalog ++ pick_line (select_initial_placement s.directory.nodes) ∷ []
 
--- a line for each placement
-abbrev pub placement_lines : Store → List (List ℕ)
-placement_lines s = map placement_line (view_placements s.catalog.placements)
+-- ---- the lines, one behind the other
 
--- a line for each retired replica
-abbrev pub retired_lines : Store → List (List ℕ)
-retired_lines s = map retired_line (view_retirements s.catalog.retirements)
+abbrev pub directory_text : DirectoryRows → List ℕ
+directory_text d = concat (directory_lines d)
 
--- the last three lines: the marks, the next replica and the first choice
-abbrev pub last_lines : Store → List (List ℕ)
-last_lines s = marks_line s.catalog.marks ∷ next_line s.catalog.marks ∷ pick_line (select_initial_placement (view_nodes s.directory.nodes)) ∷ []
+abbrev pub catalog_text : CatalogRows → List ℕ
+catalog_text c = concat (catalog_lines c)
 
--- all lines, from the first to the last: the name, nodes, tables, tablets, placements, retired replicas, and the last three
-unfoldable pub dump_lines : Store → List (List ℕ)
-dump_lines s =
-    name_line s.directory.cluster_id
-    ∷ node_lines s
-    ++ table_lines s
-    ++ tablet_lines s
-    ++ placement_lines s
-    ++ retired_lines s
-    ++ last_lines s
-
--- the lines, one behind the other
-abbrev pub dump_text : Store → List ℕ
+abbrev pub dump_text : StoreRows → List ℕ
 dump_text s = concat (dump_lines s)

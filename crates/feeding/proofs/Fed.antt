@@ -1,18 +1,16 @@
 -- One stretch of a run, and another behind it. Assumes nothing.
-use Rattle.std.proofs.Common.{◌≡◌, ℕ, ◌+◌, ◌≤◌, Bool, true, false, List, [], ◌∷◌, ◌++◌, length, take, drop, refl, sym, ap, ap₂, ◌∙◌, subst, append_assoc, append-nil, arith, take_all, length-append, drop-drop}
+use Rattle.std.proofs.Common.{◌≡◌, ℕ, ◌+◌, ◌≤◌, Bool, true, false, List, [], ◌++◌, length, take, drop, refl, sym, ap, ap₂, ◌∙◌, subst, append_assoc, append-nil, arith, take_all, length-append, drop-drop}
 use lib.Seq.{take-append-add, drop-append-le}
 use Rattle.std.specs.Prelude.{Option}
-use Rattle.std.specs.Io.KnownBytes.{Consumes, Appends}
+use Rattle.std.specs.Io.KnownBytes.{Appends}
 use Rattle.std.proofs.KnownBytes.{Consumes-nil, Consumes-trans, Appends-nil, Appends-trans}
 use Rattle.chunks.proofs.Feeding.{lines_both, behind_both, run_both, answers_both}
 use Rattle.chunks.specs.Chunks.{lines_text, line_behind}
 use Rattle.laws.proofs.ListLaws.{never}
+use Rattle.layout.specs.Layout.{store_of, sound}
 use Rattle.metadata.specs.Model.{StoreRows, run, answers}
-use Rattle.metadata.specs.Stored.{view, sound}
 use Rattle.metadata.specs.declared.Answer.{Answer}
-use Rattle.metadata.specs.declared.Command.{Command}
-use Rattle.metadata.specs.declared.Store.{Store}
-use Rattle.reading.proofs.Places.{chunks_join, stands_inside, stands_more}
+use Rattle.reading.proofs.Places.{chunks_join, stands_inside}
 use Rattle.reading.specs.Places.{Stands, none}
 use Rattle.feeding.specs.declared.End.{End}
 use Rattle.feeding.specs.Feeding.{Stage, Fed, Over, Broken, midway, at_end, Turned}
@@ -58,12 +56,12 @@ fed_join a b c last all p q =
     chunks_join l₁ q.more h p.stand (subst (λ (x : List ℕ). Stands (x ++ q.more) 0 q.commands q.place) (sym p.behind) q.stand) in
     let left : drop (p.place + q.place) (l₁ ++ q.more) ≡ c.left =
     sym (drop-drop q.place p.place (l₁ ++ q.more)) ∙ ap (drop q.place) (drop-append-le p.place l₁ q.more h ∙ ap (λ (x : List ℕ). x ++ q.more) p.behind) ∙ q.behind in
-    let one : List Answer = answers (view a.store) p.commands in
-    let two : List Answer = answers (view b.store) q.commands ++ last in
-    let said : one ++ two ≡ answers (view a.store) (p.commands ++ q.commands) ++ last =
-    sym (append_assoc one (answers (view b.store) q.commands) last)
-    ∙ ap (λ (x : List Answer). x ++ last) (ap (λ (x : StoreRows). one ++ answers x q.commands) p.ran ∙ sym (answers_both (view a.store) p.commands q.commands)) in
-    let text : lines_text a.line one ++ lines_text b.line two ≡ lines_text a.line (answers (view a.store) (p.commands ++ q.commands) ++ last) =
+    let one : List Answer = answers (store_of a.store) p.commands in
+    let two : List Answer = answers (store_of b.store) q.commands ++ last in
+    let said : one ++ two ≡ answers (store_of a.store) (p.commands ++ q.commands) ++ last =
+    sym (append_assoc one (answers (store_of b.store) q.commands) last)
+    ∙ ap (λ (x : List Answer). x ++ last) (ap (λ (x : StoreRows). one ++ answers x q.commands) p.ran ∙ sym (answers_both (store_of a.store) p.commands q.commands)) in
+    let text : lines_text a.line one ++ lines_text b.line two ≡ lines_text a.line (answers (store_of a.store) (p.commands ++ q.commands) ++ last) =
     ap (λ (x : ℕ). lines_text a.line one ++ lines_text x two) p.numbered ∙ sym (lines_both a.line one two) ∙ ap (lines_text a.line) said in
     let first : take p.count (lines_text a.line (one ++ [])) ≡ lines_text a.line one =
     take_all p.count (lines_text a.line (one ++ [])) (p.written refl) ∙ ap (lines_text a.line) (append-nil one) in
@@ -74,11 +72,11 @@ fed_join a b c last all p q =
       place = p.place + q.place;
       stand = subst (λ (x : List ℕ). Stands x 0 (p.commands ++ q.commands) (p.place + q.place)) ass stood;
       behind = subst (λ (x : List ℕ). drop (p.place + q.place) x ≡ c.left) ass left;
-      ran = q.ran ∙ ap (λ (x : StoreRows). run x q.commands) p.ran ∙ sym (run_both (view a.store) p.commands q.commands);
+      ran = q.ran ∙ ap (λ (x : StoreRows). run x q.commands) p.ran ∙ sym (run_both (store_of a.store) p.commands q.commands);
       sounds = q.sounds;
       numbered =
-          q.numbered ∙ ap₂ (λ (x : ℕ) (y : StoreRows). line_behind x (answers y q.commands)) p.numbered p.ran ∙ sym (behind_both a.line one (answers (run (view a.store) p.commands) q.commands))
-          ∙ ap (line_behind a.line) (sym (answers_both (view a.store) p.commands q.commands));
+          q.numbered ∙ ap₂ (λ (x : ℕ) (y : StoreRows). line_behind x (answers y q.commands)) p.numbered p.ran ∙ sym (behind_both a.line one (answers (run (store_of a.store) p.commands) q.commands))
+          ∙ ap (line_behind a.line) (sym (answers_both (store_of a.store) p.commands q.commands));
       count = length (lines_text a.line one) + q.count;
       wrote =
           subst (Appends a.held c.held)
@@ -88,7 +86,7 @@ fed_join a b c last all p q =
       written = λ e. omega (arith, q.written e, ap length text, length-append (lines_text a.line one) (lines_text b.line two));
     }
 
-pub over_join : (a b : Stage) (how : End) (s : Store) (unread held : Option (List ℕ)) (all : Bool) → Fed a b [] true → Over b how s unread held all → Over a how s unread held all
+pub over_join : (a b : Stage) (how : End) (s : List ℕ) (unread held : Option (List ℕ)) (all : Bool) → Fed a b [] true → Over b how s unread held all → Over a how s unread held all
 over_join a b how s unread held all p q =
     record {
       left = q.left;
@@ -99,7 +97,7 @@ over_join a b how s unread held all p q =
       how_ended = q.how_ended;
     }
 
-pub broken_join : (a b : Stage) (s : Store) (unread held : Option (List ℕ)) → Fed a b [] true → Broken b s unread held → Broken a s unread held
+pub broken_join : (a b : Stage) (s : List ℕ) (unread held : Option (List ℕ)) → Fed a b [] true → Broken b s unread held → Broken a s unread held
 broken_join a b s unread held p (midway left line q) = midway left line (fed_join a b _ [] false p q)
 broken_join a b s unread held p (at_end how q) = at_end how (over_join a b how s unread held false p q)
 
@@ -122,10 +120,10 @@ weaker a b last p =
     }
 
 -- a run that stops in the middle
-pub fed_broken : (a : Stage) (left : List ℕ) (s : Store) (line : ℕ) (unread held : Option (List ℕ)) → Fed a (record { left = left; store = s; line = line; unread = unread; held = held }) [] true → Broken a s unread held
+pub fed_broken : (a : Stage) (left : List ℕ) (s : List ℕ) (line : ℕ) (unread held : Option (List ℕ)) → Fed a (record { left = left; store = s; line = line; unread = unread; held = held }) [] true → Broken a s unread held
 fed_broken a left s line unread held p = midway left line (weaker a (record { left = left; store = s; line = line; unread = unread; held = held }) [] p)
 
-pub turned_over : (a b : Stage) (buffer : Buffer) (s : Store) (unread held : Option (List ℕ)) (p : Progress) (how : End) → Fed a b [] true → Turned b buffer s unread held p → p ≡ P.Over how → Over a how s unread held true
+pub turned_over : (a b : Stage) (buffer : Buffer) (s : List ℕ) (unread held : Option (List ℕ)) (p : Progress) (how : End) → Fed a b [] true → Turned b buffer s unread held p → p ≡ P.Over how → Over a how s unread held true
 turned_over a b buffer s unread held p how f t e = over_join a b how s unread held true f (subst (Turned b buffer s unread held) e t)
 
 pub fed_sound : (a b : Stage) (last : List Answer) (all : Bool) → Fed a b last all → sound b.store ≡ true

@@ -1,7 +1,6 @@
 -- What stands behind the last command when the input ends, and the line that says so. Assumes nothing.
-use Rattle.std.proofs.Common.{◌≡◌, ℕ, ◌≤◌, true, false, List, [], ◌∷◌, length, take, refl, sym, ap, ◌∙◌, subst, true≢false, arith}
+use Rattle.std.proofs.Common.{◌≡◌, ℕ, true, false, List, [], length, refl, sym, ap, ◌∙◌, subst, true≢false, arith}
 use Rattle.std.specs.Prelude.{Option, Result, Ok, Err, IsErr, OnOk}
-use Rattle.std.specs.Io.KnownBytes.{Appends}
 use Rattle.std.proofs.KnownBytes.{Appends-nil}
 use Rattle.chunks.proofs.Feeding.{one_line}
 use Rattle.chunks.specs.Chunks.{lines_text}
@@ -13,7 +12,6 @@ use Rattle.laws.proofs.ListLaws.{never}
 use Rattle.lines.specs.Lines.{line_text}
 use Rattle.metadata.specs.Answers.{reported}
 use Rattle.metadata.specs.declared.Answer.TheVariants as A
-use Rattle.metadata.specs.declared.Reported.{Reported}
 use Rattle.metadata.specs.declared.kinds.TapeFault.TheVariants as F
 use Rattle.printing.specs.Sent.{Sent}
 use Rattle.reading.specs.Places.{stop_of, is_unknown}

@@ -1,12 +1,10 @@
 -- The opening of a tape, and the commands behind it. Assumes nothing.
-use Rattle.std.proofs.Common.{◌≡◌, ℕ, ◌+◌, ◌*◌, ◌≤◌, ◌<◌, Bool, true, List, [], ◌++◌, length, take, sym, ap, ◌∙◌, subst, inl, inr, true≢false, arith, length-append}
+use Rattle.std.proofs.Common.{◌≡◌, ℕ, ◌+◌, ◌≤◌, ◌<◌, Bool, true, List, [], ◌++◌, length, sym, ap, ◌∙◌, subst, inl, inr, true≢false, arith, length-append}
 use Rattle.std.proofs.lemmas.Bool.Decides.{nat_tests}
+use Rattle.layout.specs.Layout.{sound, Opened as Holds}
 use Rattle.metadata.specs.Answers.{is_applied}
 use Rattle.metadata.specs.Model.{Outcome}
-use Rattle.metadata.specs.Stored.{sound, Opened as Holds}
 use Rattle.metadata.specs.declared.Answer.{Answer}
-use Rattle.metadata.specs.declared.Answered.{Answered}
-use Rattle.metadata.specs.declared.Store.{Store}
 use Rattle.feeding.specs.Whole.{OpeningRead}
 use Rattle.input.specs.Filled.{Grown}
 use Rattle.laws.specs.Bytes.{byte_at}
@@ -24,11 +22,11 @@ pub accepted_inside : (l : List ℕ) → is_applied (open_tape l).answer ≡ tru
 unfolding open_tape
 accepted_inside l e = grind (arith, nat_tests)
 
-pub opened_inside : (l : List ℕ) (o : Answered) (b : Bool) (at : ℕ) → Holds (open_tape l) o.answer o.store → b ≡ is_applied o.answer → b ≡ true → at ≡ body_at l → at ≤ length l
-opened_inside l o b at q p e a = omega (arith, a, accepted_inside l (applied l o b q p e))
+pub opened_inside : (l : List ℕ) (a : Answer) (s : List ℕ) (b : Bool) (at : ℕ) → Holds (open_tape l) a s → b ≡ is_applied a → b ≡ true → at ≡ body_at l → at ≤ length l
+opened_inside l a s b at q p e f = omega (arith, f, accepted_inside l (applied l a s b q p e))
 
 -- the store that an opening leaves is sound
-pub opened_sound : (o : Outcome) (a : Answer) (s : Store) → Holds o a s → sound s ≡ true
+pub opened_sound : (o : Outcome) (a : Answer) (s : List ℕ) → Holds o a s → sound s ≡ true
 opened_sound o a s q = q.sounds
 
 -- ---- the opening is read: nothing was at hand, h is at hand when the head was asked for

@@ -1,9 +1,9 @@
 -- A turn of the run: the commands at hand are run, and where none is left more is read. Assumes nothing.
-use Rattle.std.proofs.Common.{◌≡◌, ℕ, ◌+◌, ◌-◌, ◌≤◌, ◌<◌, Bool, true, false, List, [], ◌∷◌, ◌++◌, length, take, drop, refl, sym, ap, ap₂, ◌∙◌, subst, append_assoc, append-nil, true≢false, arith, take_all, length-drop, drop-drop}
-use Rattle.std.specs.Prelude.{Option, Result, Ok, Err, IfOk, OnOk, OnErr}
-use Rattle.std.specs.Io.KnownBytes.{Consumes, Appends, IsAtEnd}
+use Rattle.std.proofs.Common.{◌≡◌, ℕ, ◌+◌, ◌-◌, ◌≤◌, ◌<◌, Bool, true, false, List, [], ◌∷◌, ◌++◌, length, take, drop, refl, sym, ap, ◌∙◌, subst, append-nil, arith, take_all, length-drop, drop-drop}
+use Rattle.std.specs.Prelude.{Option, Result, Ok, Err, IfOk, OnOk}
+use Rattle.std.specs.Io.KnownBytes.{Appends, IsAtEnd}
 use Rattle.std.proofs.KnownBytes.{Consumes-nil, Appends-nil}
-use Rattle.chunks.specs.Chunks.{lines_text, line_behind, is_full, is_stopped, last_of, Fed as ChunkFed}
+use Rattle.chunks.specs.Chunks.{lines_text, is_full, is_stopped, last_of, Fed as ChunkFed}
 use Rattle.chunks.specs.declared.Chunk.{Chunk}
 use Rattle.chunks.specs.declared.Pause.{Pause}
 use Rattle.chunks.specs.declared.Pause.TheVariants as P
@@ -15,10 +15,8 @@ use Rattle.input.specs.Buffers.{buffer_size}
 use Rattle.input.specs.Filled.{hand, rest, Filled}
 use Rattle.input.specs.declared.Buffer.{Buffer}
 use Rattle.laws.proofs.ListLaws.{never}
-use Rattle.metadata.specs.Model.{run, answers}
-use Rattle.metadata.specs.Stored.{view, sound}
-use Rattle.metadata.specs.declared.Answer.{Answer}
-use Rattle.metadata.specs.declared.Store.{Store}
+use Rattle.layout.specs.Layout.{store_of}
+use Rattle.metadata.specs.Model.{answers}
 use Rattle.printing.specs.Sent.{Sent}
 use Rattle.reading.proofs.Places.{next_drop, rest_short, stands_more}
 use Rattle.reading.specs.Places.{Stands, none, stop_of, is_whole, is_unknown}
@@ -26,12 +24,12 @@ use Rattle.reading.specs.Reader.{next_at}
 use Rattle.reading.specs.declared.Next.{Next}
 use Rattle.reading.specs.declared.Next.TheVariants as N
 
-abbrev stage : List ℕ → Store → ℕ → Option (List ℕ) → Option (List ℕ) → Stage
+abbrev stage : List ℕ → List ℕ → ℕ → Option (List ℕ) → Option (List ℕ) → Stage
 stage l s n u w = record { left = l; store = s; line = n; unread = u; held = w }
 
 -- ---- a chunk was run, and its lines sent
 
-module _ (b : Buffer) (at line : ℕ) (h : List ℕ) (e : h ≡ hand b) (n : length h ≡ b.have) (g : at ≤ b.have) (s s' : Store) (old new : List ℕ) (o : old ≡ []) (c : Chunk) (room : ℕ)
+module _ (b : Buffer) (at line : ℕ) (h : List ℕ) (e : h ≡ hand b) (n : length h ≡ b.have) (g : at ≤ b.have) (s s' : List ℕ) (old new : List ℕ) (o : old ≡ []) (c : Chunk) (room : ℕ)
     (k : ChunkFed room (take (length h - at) (drop at h)) s line old c s' new) (unread held held' : Option (List ℕ)) (text : List ℕ) (t : text ≡ new) where
   abbrev before : Stage
   before = stage (rest b at) s line unread held
@@ -45,13 +43,13 @@ module _ (b : Buffer) (at line : ℕ) (h : List ℕ) (e : h ≡ hand b) (n : len
   pub chunk_inside : at + c.at ≤ b.have
   chunk_inside = omega (arith, k.inside, ap length (take_all (length h - at) (drop at h) (omega (arith, length-drop at h))), length-drop at h, n)
 
-  sent_text : text ≡ lines_text line (answers (view s) k.commands ++ last_of c.pause (next_at (take (length h - at) (drop at h)) c.at))
-  sent_text = t ∙ k.text ∙ ap (λ (x : List ℕ). x ++ lines_text line (answers (view s) k.commands ++ last_of c.pause (next_at (take (length h - at) (drop at h)) c.at))) o
+  sent_text : text ≡ lines_text line (answers (store_of s) k.commands ++ last_of c.pause (next_at (take (length h - at) (drop at h)) c.at))
+  sent_text = t ∙ k.text ∙ ap (λ (x : List ℕ). x ++ lines_text line (answers (store_of s) k.commands ++ last_of c.pause (next_at (take (length h - at) (drop at h)) c.at))) o
 
   fed : {V E : Type 0} (r : Result V E) → Sent held held' text r → (all : Bool) → (all ≡ true → OnOk r ⊥ → ⊥) → Fed before (stage (rest b (at + c.at)) s' c.line unread held') (last_of c.pause (next_at (rest b at) c.at)) all
   fed {V} {E} r w all whole =
-      let z : text ≡ lines_text line (answers (view s) k.commands ++ last_of c.pause (next_at (rest b at) c.at)) =
-      sent_text ∙ ap (λ (x : List ℕ). lines_text line (answers (view s) k.commands ++ last_of c.pause (next_at x c.at))) here in
+      let z : text ≡ lines_text line (answers (store_of s) k.commands ++ last_of c.pause (next_at (rest b at) c.at)) =
+      sent_text ∙ ap (λ (x : List ℕ). lines_text line (answers (store_of s) k.commands ++ last_of c.pause (next_at x c.at))) here in
       record {
         more = [];
         read = Consumes-nil unread;

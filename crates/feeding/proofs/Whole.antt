@@ -1,30 +1,31 @@
 -- A whole tape: its opening, and its commands as they were run. Assumes nothing.
-use Rattle.std.proofs.Common.{◌≡◌, ℕ, ◌+◌, ◌-◌, ◌≤◌, ◌<◌, Bool, true, false, cond, List, [], ◌∷◌, ◌++◌, length, take, drop, min, refl, sym, ap, ap₂, ◌∙◌, subst, append_assoc, append-nil, arith, take_all, length-take-le, take-append-drop, drop-drop, length-append, length-drop}
-use Rattle.std.specs.Prelude.{◌⊎◌, Option, None, Some, IfSome, Result, Ok, OnOk}
+use Rattle.std.proofs.Common.{◌≡◌, ℕ, ◌+◌, ◌≤◌, Bool, true, false, List, [], ◌∷◌, ◌++◌, length, take, drop, min, refl, sym, ap, ◌∙◌, subst, append_assoc, append-nil, arith, take_all, length-take-le, take-append-drop, drop-drop, length-append}
+use Rattle.std.specs.Prelude.{◌⊎◌, Option, None, Some, IfSome, Result, Ok, IfOk, OnOk, OnErr}
 use Rattle.std.proofs.Common.{inl, inr}
 use lib.Seq.{take-append-le, drop-append-le}
 use Rattle.std.proofs.lemmas.List.{take_min}
+use Rattle.std.proofs.lemmas.Option.{IfSome_then}
+use Rattle.std.proofs.lemmas.Result.{IfOk-weaker, on_err_weaker}
+use Rattle.std.proofs.Math.Seq.{take-append_seam}
 use Rattle.std.specs.Io.KnownBytes.{Consumes, Appends, IsAtEnd}
-use Rattle.std.proofs.KnownBytes.{Consumes-trans, Appends-nil}
-use Rattle.chunks.proofs.Feeding.{lines_both, run_both, answers_both, one_line}
+use Rattle.std.proofs.KnownBytes.{Consumes-trans}
+use Rattle.chunks.proofs.Feeding.{lines_both, answers_both, one_line}
 use Rattle.chunks.specs.Chunks.{lines_text, line_behind}
 use Rattle.feeding.proofs.Opened.{accepted_inside}
 use Rattle.feeding.specs.Feeding.{Stage, Fed, Over, Broken, midway, at_end, end_of}
-use Rattle.feeding.specs.Whole.{first_line, tape_text, ended_by, end_of_tape, Ended, Ran, Beginning, OpeningRead}
+use Rattle.feeding.specs.Whole.{tape_text, ended_by, rows_after, Ended, Ran, Beginning, Failed, unopened, partly, OpeningRead}
 use Rattle.feeding.specs.declared.End.{End}
 use Rattle.feeding.specs.declared.End.TheVariants as H
 use Rattle.laws.proofs.ListLaws.{never}
+use Rattle.layout.specs.Layout.{store_of, sound, Opened as Holds}
 use Rattle.lines.specs.Lines.{line_text}
 use Rattle.metadata.specs.Answers.{is_applied, reported}
 use Rattle.printing.specs.Sent.{Sent}
 use Rattle.metadata.specs.Claims.{Claims}
 use Rattle.metadata.specs.History.{begun}
 use Rattle.metadata.specs.Model.{StoreRows, Outcome, run, answers}
-use Rattle.metadata.specs.Stored.{view, sound, Opened as Holds}
 use Rattle.metadata.specs.declared.Answer.{Answer}
-use Rattle.metadata.specs.declared.Answered.{Answered}
 use Rattle.metadata.specs.declared.Command.{Command}
-use Rattle.metadata.specs.declared.Store.{Store}
 use Rattle.reading.proofs.Longer.{open_longer, body_longer}
 use Rattle.reading.proofs.Places.{stands_behind, stands_more, stands_inside, stands_read, stands_all, next_back, unknown_in}
 use Rattle.reading.specs.Places.{Stands, Opened, stop_of, is_whole, is_unknown}
@@ -70,10 +71,10 @@ module _ (l : List ℕ) (a : is_applied (open_tape l).answer ≡ true) (cs : Lis
     pub all_told : outcome l ≡ answers (open_tape l).rows cs ++ stop_of (next_at l e)
     all_told = outcome_accepted l a ∙ ap (tape_answers (open_tape l).rows) all_read
 
-    pub all_ended : (how : End) (s : Store) (held now : Option (List ℕ)) → view s ≡ run (open_tape l).rows cs → sound s ≡ true → how ≡ end_of (next_at l e) →
+    pub all_ended : (how : End) (s : List ℕ) (held now : Option (List ℕ)) → store_of s ≡ run (open_tape l).rows cs → sound s ≡ true → how ≡ end_of (next_at l e) →
         Appends held now (lines_text 1 (answers (open_tape l).rows cs ++ stop_of (next_at l e))) → Ended l how s held now
     all_ended how s held now q i h w =
-        let z : view s ≡ final_store l = q ∙ ap (λ (r : Reading). run (open_tape l).rows r.commands) (sym all_read) ∙ sym (store_accepted l a) in
+        let z : store_of s ≡ final_store l = q ∙ ap (λ (r : Reading). run (open_tape l).rows r.commands) (sym all_read) ∙ sym (store_accepted l a) in
         record {
           rows = z;
           sounds = i;
@@ -89,13 +90,23 @@ module _ (l : List ℕ) (a : is_applied (open_tape l).answer ≡ true) (cs : Lis
       ∙ ap (λ (x : List Answer). x ++ (read_from l e).stop) (answers_both (open_tape l).rows cs (read_from l e).commands)
       ∙ append_assoc (answers (open_tape l).rows cs) (answers (run (open_tape l).rows cs) (read_from l e).commands) (read_from l e).stop
 
-  pub some_written : (count : ℕ) (held now : Option (List ℕ)) → Appends held now (take count (lines_text 1 (answers (open_tape l).rows cs ++ []))) → Beginning l held now
-  some_written count held now w =
+  pub some_rows : (s : List ℕ) → store_of s ≡ run (open_tape l).rows cs → store_of s ≡ rows_after (length cs) l
+  some_rows s q =
+      let first : take (length cs) (read_from l (body_at l)).commands ≡ cs =
+      ap (λ (r : Reading). take (length cs) r.commands) (stands_read stand) ∙ take-append_seam cs (read_from l e).commands in
+      q ∙ ap (run (open_tape l).rows) (sym first) ∙ sym (rw a refl)
+
+  pub some_written : (s : List ℕ) → store_of s ≡ run (open_tape l).rows cs → sound s ≡ true →
+      (count : ℕ) (held now : Option (List ℕ)) → Appends held now (take count (lines_text 1 (answers (open_tape l).rows cs ++ []))) → Beginning l s held now
+  some_written s q i count held now w =
       let one : List ℕ = lines_text 1 (answers (open_tape l).rows cs) in
       let more : List Answer = tape_answers (run (open_tape l).rows cs) (read_from l e) in
       let text : tape_text l ≡ one ++ lines_text (line_behind 1 (answers (open_tape l).rows cs)) more =
       text_from more some_told ∙ lines_both 1 (answers (open_tape l).rows cs) more in
       record {
+        done = length cs;
+        rows = some_rows s q;
+        sounds = i;
         count = min count (length one);
         wrote =
             subst (Appends held now)
@@ -140,11 +151,11 @@ at_its_end : (after : Option (List ℕ)) (r : List ℕ) → IsAtEnd after → af
 at_its_end after r e q = subst IsAtEnd q e
 
 -- l is at hand when the opening is accepted, s₀ holds what it gives, and the run goes on from its end
-module _ (l : List ℕ) (a : is_applied (open_tape l).answer ≡ true) (s₀ : Store) (v : view s₀ ≡ (open_tape l).rows) (unread held : Option (List ℕ)) where
+module _ (l : List ℕ) (a : is_applied (open_tape l).answer ≡ true) (s₀ : List ℕ) (v : store_of s₀ ≡ (open_tape l).rows) (unread held : Option (List ℕ)) where
   abbrev start : Stage
   start = record { left = drop (body_at l) l; store = s₀; line = 1; unread = unread; held = held }
 
-  module _ (left : List ℕ) (s : Store) (line : ℕ) (after now : Option (List ℕ)) (last : List Answer) (all : Bool)
+  module _ (left : List ℕ) (s : List ℕ) (line : ℕ) (after now : Option (List ℕ)) (last : List Answer) (all : Bool)
       (k : Fed start (record { left = left; store = s; line = line; unread = after; held = now }) last all) where
     abbrev tape : List ℕ
     tape = l ++ k.more
@@ -172,30 +183,35 @@ module _ (l : List ℕ) (a : is_applied (open_tape l).answer ≡ true) (s₀ : S
       accepts : is_applied (open_tape (tape ++ r)).answer ≡ true
       accepts = ap (λ (o : Outcome). is_applied o.answer) same_opening ∙ a
 
-      same_rows : (open_tape (tape ++ r)).rows ≡ view s₀
+      same_rows : (open_tape (tape ++ r)).rows ≡ store_of s₀
       same_rows = ap (λ (o : Outcome). o.rows) same_opening ∙ sym v
 
       stand_longer : Stands (tape ++ r) (body_at (tape ++ r)) k.commands place
       stand_longer = subst (λ (i : ℕ). Stands (tape ++ r) i k.commands place) (sym same_body) (stands_more tape r stand)
 
-      begins : (count : ℕ) → Appends held now (take count (lines_text 1 (answers (view s₀) k.commands ++ []))) → Beginning (tape ++ r) held now
+      ran_longer : store_of s ≡ run (open_tape (tape ++ r)).rows k.commands
+      ran_longer = k.ran ∙ ap (λ (o : StoreRows). run o k.commands) (sym same_rows)
+
+      rows_longer : store_of s ≡ rows_after (length k.commands) (tape ++ r)
+      rows_longer = some_rows (tape ++ r) accepts k.commands place stand_longer s ran_longer
+
+      begins : (count : ℕ) → Appends held now (take count (lines_text 1 (answers (store_of s₀) k.commands ++ []))) → Beginning (tape ++ r) s held now
       begins count w =
-          some_written (tape ++ r) accepts k.commands place stand_longer count held now
+          some_written (tape ++ r) accepts k.commands place stand_longer s ran_longer k.sounds count held now
           (subst (λ (o : StoreRows). Appends held now (take count (lines_text 1 (answers o k.commands ++ [])))) (sym same_rows) w)
 
       module _ (n : is_whole (next_at (tape ++ r) place) ≡ false) where
-        ends : (how : End) → how ≡ end_of (next_at (tape ++ r) place) → Appends held now (lines_text 1 (answers (view s₀) k.commands ++ stop_of (next_at (tape ++ r) place))) → Ended (tape ++ r) how s held now
+        ends : (how : End) → how ≡ end_of (next_at (tape ++ r) place) → Appends held now (lines_text 1 (answers (store_of s₀) k.commands ++ stop_of (next_at (tape ++ r) place))) → Ended (tape ++ r) how s held now
         ends how h w =
-            all_ended (tape ++ r) accepts k.commands place stand_longer n how s held now
-            (k.ran ∙ ap (λ (o : StoreRows). run o k.commands) (sym same_rows)) k.sounds h
+            all_ended (tape ++ r) accepts k.commands place stand_longer n how s held now ran_longer k.sounds h
             (subst (λ (o : StoreRows). Appends held now (lines_text 1 (answers o k.commands ++ stop_of (next_at (tape ++ r) place)))) (sym same_rows) w)
 
-        text_is : tape_text (tape ++ r) ≡ lines_text 1 (answers (view s₀) k.commands ++ stop_of (next_at (tape ++ r) place))
+        text_is : tape_text (tape ++ r) ≡ lines_text 1 (answers (store_of s₀) k.commands ++ stop_of (next_at (tape ++ r) place))
         text_is =
             rw accepts (ap (lines_text 1) (all_told (tape ++ r) accepts k.commands place stand_longer n))
             ∙ ap (λ (o : StoreRows). lines_text 1 (answers o k.commands ++ stop_of (next_at (tape ++ r) place))) same_rows
 
-  module _ (how : End) (s : Store) (after now : Option (List ℕ)) (all : Bool) (o : Over start how s after now all) where
+  module _ (how : End) (s : List ℕ) (after now : Option (List ℕ)) (all : Bool) (o : Over start how s after now all) where
     abbrev whole_tape : List ℕ
     whole_tape = l ++ o.fed.more
 
@@ -232,22 +248,25 @@ module _ (l : List ℕ) (a : is_applied (open_tape l).answer ≡ true) (s₀ : S
       ended_so t =
           ends o.left s o.line after now _ all o.fed r not_whole how (o.how_ended ∙ ap end_of (sym n))
           (subst (Appends held now)
-          (take_all o.fed.count (lines_text 1 (answers (view s₀) o.fed.commands ++ stop_of (next_at o.left 0))) (o.fed.written t)
-          ∙ ap (λ (x : Next). lines_text 1 (answers (view s₀) o.fed.commands ++ stop_of x)) (sym n))
+          (take_all o.fed.count (lines_text 1 (answers (store_of s₀) o.fed.commands ++ stop_of (next_at o.left 0))) (o.fed.written t)
+          ∙ ap (λ (x : Next). lines_text 1 (answers (store_of s₀) o.fed.commands ++ stop_of x)) (sym n))
           o.fed.wrote)
 
-      begun_so : Beginning (whole_tape ++ r) held now
+      begun_so : Beginning (whole_tape ++ r) s held now
       begun_so =
           record {
+            done = length o.fed.commands;
+            rows = rows_longer o.left s o.line after now _ all o.fed r;
+            sounds = o.fed.sounds;
             count = o.fed.count;
             wrote =
                 subst (λ (x : List ℕ). Appends held now (take o.fed.count x))
-                (ap (λ (x : Next). lines_text 1 (answers (view s₀) o.fed.commands ++ stop_of x)) (sym n) ∙ sym (text_is o.left s o.line after now _ all o.fed r not_whole))
+                (ap (λ (x : Next). lines_text 1 (answers (store_of s₀) o.fed.commands ++ stop_of x)) (sym n) ∙ sym (text_is o.left s o.line after now _ all o.fed r not_whole))
                 o.fed.wrote;
           }
 
   -- ---- THE TAPE WAS RUN
-  pub tape_ran : (first : Option (List ℕ)) → Consumes first unread l → (how : End) (s : Store) (after now : Option (List ℕ)) → Over start how s after now true → Ran how s first after held now
+  pub tape_ran : (first : Option (List ℕ)) → Consumes first unread l → (how : End) (s : List ℕ) (after now : Option (List ℕ)) → Over start how s after now true → Ran how s first after held now
   tape_ran first c how s after now o =
       let nil : next_at (whole_tape how s after now true o ++ []) (whole_place how s after now true o) ≡ next_at o.left 0 =
       ap (λ (x : List ℕ). next_at x (whole_place how s after now true o)) (append-nil (whole_tape how s after now true o)) ∙ last_stands how s after now true o in
@@ -259,17 +278,17 @@ module _ (l : List ℕ) (a : is_applied (open_tape l).answer ≡ true) (s₀ : S
       }
 
   -- ---- it was not, and a beginning of its lines was written
-  pub tape_broken : (first : Option (List ℕ)) → Consumes first unread l → (s : Store) (after now : Option (List ℕ)) → Broken start s after now → IfSome first (λ t. Beginning t held now)
+  pub tape_broken : (first : Option (List ℕ)) → Consumes first unread l → (s : List ℕ) (after now : Option (List ℕ)) → Broken start s after now → IfSome first (λ t. Beginning t s held now)
   tape_broken None c s after now b = tt
   tape_broken (Some t) c s after now (midway left line f) =
       let k = known t after (l ++ f.more) (Consumes-trans (Some t) unread after l f.more c f.read) in
-      subst (λ (x : List ℕ). Beginning x held now) (sym k.2) (begins left s line after now [] false f k.0 f.count f.wrote)
+      subst (λ (x : List ℕ). Beginning x s held now) (sym k.2) (begins left s line after now [] false f k.0 f.count f.wrote)
   tape_broken (Some t) c s after now (at_end how o) =
       let k = known t after (l ++ o.fed.more) (Consumes-trans (Some t) unread after l o.fed.more c o.fed.read) in
-      subst (λ (x : List ℕ). Beginning x held now) (sym k.2) (begun_so how s after now false o k.0 (stays how s after now false o k.0 k.1))
+      subst (λ (x : List ℕ). Beginning x s held now) (sym k.2) (begun_so how s after now false o k.0 (stays how s after now false o k.0 k.1))
 
 -- ---- of a run, where what the input had is known: the whole tape is that
-pub ran_known : (how : End) (s : Store) (unread after held now : Option (List ℕ)) → Ran how s unread after held now → IfSome unread (λ t. Ended t how s held now)
+pub ran_known : (how : End) (s : List ℕ) (unread after held now : Option (List ℕ)) → Ran how s unread after held now → IfSome unread (λ t. Ended t how s held now)
 ran_known how s None after held now k = tt
 ran_known how s (Some t) after held now k =
     let r = known t after k.tape k.read in
@@ -281,7 +300,7 @@ module _ (l : List ℕ) (a : is_applied (open_tape l).answer ≡ false) where
   refused_text : tape_text l ≡ line_text 0 (reported (open_tape l).answer)
   refused_text = rw a (ap (lines_text 0) (outcome_refused l a)) ∙ one_line 0 (open_tape l).answer
 
-  refused_ended : (s : Store) → view s ≡ (open_tape l).rows → sound s ≡ true → (held now : Option (List ℕ)) → Appends held now (line_text 0 (reported (open_tape l).answer)) →
+  refused_ended : (s : List ℕ) → store_of s ≡ (open_tape l).rows → sound s ≡ true → (held now : Option (List ℕ)) → Appends held now (line_text 0 (reported (open_tape l).answer)) →
       Ended l H.Stopped s held now
   refused_ended s v i held now w =
       record {
@@ -305,7 +324,7 @@ module _ (first after : Option (List ℕ)) (l : List ℕ) (a : is_applied (open_
   refused_too r q = ap (λ (o : Outcome). is_applied o.answer) (refused_same r q) ∙ a
 
   module _ (held now : Option (List ℕ)) (V E : Type 0) (r : Result V E) (w : Sent held now (line_text 0 (reported (open_tape l).answer)) r) where
-    pub refused_ran : (s : Store) → view s ≡ (open_tape l).rows → sound s ≡ true → (v : V) → r ≡ Ok v → Ran H.Stopped s first after held now
+    pub refused_ran : (s : List ℕ) → store_of s ≡ (open_tape l).rows → sound s ≡ true → (v : V) → r ≡ Ok v → Ran H.Stopped s first after held now
     refused_ran s u i v e =
         let z : Appends held now (line_text 0 (reported (open_tape l).answer)) =
         subst (Appends held now)
@@ -320,31 +339,34 @@ module _ (first after : Option (List ℕ)) (l : List ℕ) (a : is_applied (open_
               (subst (λ (o : Outcome). Appends held now (line_text 0 (reported o.answer))) (sym (refused_same m q)) z);
         }
 
-    pub refused_broken : IfSome first (λ t. Beginning t held now)
-    refused_broken = go first c
+    pub refused_broken : (s : List ℕ) → store_of s ≡ (open_tape l).rows → sound s ≡ true → IfSome first (λ t. Beginning t s held now)
+    refused_broken s u i = go first c
       where
-        go : (u : Option (List ℕ)) → Consumes u after l → IfSome u (λ t. Beginning t held now)
+        go : (x : Option (List ℕ)) → Consumes x after l → IfSome x (λ t. Beginning t s held now)
         go None d = tt
         go (Some t) d =
             let k = known t after l d in
-            subst (λ (x : List ℕ). Beginning x held now) (sym k.2)
+            subst (λ (x : List ℕ). Beginning x s held now) (sym k.2)
             (record {
+              done = 0;
+              rows = u ∙ ap (λ (o : Outcome). o.rows) (sym (refused_same k.0 k.1)) ∙ sym (rw (refused_too k.0 k.1) refl);
+              sounds = i;
               count = w.count;
               wrote =
                   subst (λ (x : List ℕ). Appends held now (take w.count x))
                   (ap (λ (o : Outcome). line_text 0 (reported o.answer)) (sym (refused_same k.0 k.1)) ∙ sym (refused_text (l ++ k.0) (refused_too k.0 k.1))) w.wrote;
             })
 
--- nothing was written yet
-pub nothing_begun : (first held : Option (List ℕ)) → IfSome first (λ t. Beginning t held held)
-nothing_begun None held = tt
-nothing_begun (Some t) held = record { count = 0; wrote = Appends-nil held }
+-- the opening was not read
+pub nothing_begun : (first held : Option (List ℕ)) (s : List ℕ) → IfSome first (λ t. Failed t s s held held)
+nothing_begun None held s = tt
+nothing_begun (Some t) held s = unopened refl refl
 
 -- ---- as the code meets them: `hand` is at hand, h and g are slices of it, o is what the opening gives and t whether it is accepted
 
-module _ {V E : Type 0} (hand h : List ℕ) (e : h ≡ hand) (first unread held : Option (List ℕ)) (x : Result V E) (k : OpeningRead hand first unread x) (o : Answered) (q : Holds (open_tape h) o.answer o.store) (t : Bool) (p : t ≡ is_applied o.answer) where
-  opening_is : Holds (open_tape hand) o.answer o.store
-  opening_is = subst (λ (y : List ℕ). Holds (open_tape y) o.answer o.store) e q
+module _ {V E : Type 0} (hand h : List ℕ) (e : h ≡ hand) (first unread held : Option (List ℕ)) (x : Result V E) (k : OpeningRead hand first unread x) (o : Answer) (s₀ : List ℕ) (q : Holds (open_tape h) o s₀) (t : Bool) (p : t ≡ is_applied o) where
+  opening_is : Holds (open_tape hand) o s₀
+  opening_is = subst (λ (y : List ℕ). Holds (open_tape y) o s₀) e q
 
   module _ (f : t ≡ true) (g : List ℕ) (d : g ≡ hand) (at : ℕ) (z : at ≡ body_at g) where
     accepts_it : is_applied (open_tape hand).answer ≡ true
@@ -353,23 +375,26 @@ module _ {V E : Type 0} (hand h : List ℕ) (e : h ≡ hand) (first unread held 
     begins_at : at ≡ body_at hand
     begins_at = z ∙ ap body_at d
 
-    pub run_accepted : (how : End) (s : Store) (after now : Option (List ℕ)) →
-        Over (record { left = drop at hand; store = o.store; line = 1; unread = unread; held = held }) how s after now true → Ran how s first after held now
-    run_accepted how s after now w =
-        tape_ran hand accepts_it o.store opening_is.rows unread held first k.read how s after now
-        (subst (λ (i : ℕ). Over (record { left = drop i hand; store = o.store; line = 1; unread = unread; held = held }) how s after now true) begins_at w)
+    abbrev stage_at : ℕ → Stage
+    stage_at i = record { left = drop i hand; store = s₀; line = 1; unread = unread; held = held }
 
-    pub run_known : (how : End) (s : Store) (after now : Option (List ℕ)) →
-        Over (record { left = drop at hand; store = o.store; line = 1; unread = unread; held = held }) how s after now true → IfSome first (λ l. Ended l how s held now)
-    run_known how s after now w = ran_known how s first after held now (run_accepted how s after now w)
+    module _ (s : List ℕ) (after now : Option (List ℕ)) {F : Type 0} (r : Result End F) where
+      pub run_accepted : IfOk r (λ how. Over (stage_at at) how s after now true) → IfOk r (λ how. Ran how s first after held now)
+      run_accepted w = IfOk-weaker r _ _ (λ how x. one how (subst (λ (i : ℕ). Over (stage_at i) how s after now true) begins_at x)) w
+        where
+          one : (how : End) → Over (stage_at (body_at hand)) how s after now true → Ran how s first after held now
+          one how x = tape_ran hand accepts_it s₀ opening_is.rows unread held first k.read how s after now x
 
-    pub run_failed : (s : Store) (after now : Option (List ℕ)) →
-        Broken (record { left = drop at hand; store = o.store; line = 1; unread = unread; held = held }) s after now → IfSome first (λ l. Beginning l held now)
-    run_failed s after now w =
-        tape_broken hand accepts_it o.store opening_is.rows unread held first k.read s after now
-        (subst (λ (i : ℕ). Broken (record { left = drop i hand; store = o.store; line = 1; unread = unread; held = held }) s after now) begins_at w)
+      pub run_known : IfOk r (λ how. Over (stage_at at) how s after now true) → IfOk r (λ how. IfSome first (λ l. Ended l how s held now))
+      run_known w = IfOk-weaker r _ _ (λ how x. ran_known how s first after held now x) (run_accepted w)
 
-  module _ (f : t ≡ false) (v : V) (y : x ≡ Ok v) {V' E' : Type 0} (now : Option (List ℕ)) (r : Result V' E') (w : Sent held now (line_text 0 (reported o.answer)) r) where
+      pub run_failed : (lent : List ℕ) → OnErr r (Broken (stage_at at) s after now) → OnErr r (IfSome first (λ l. Failed l lent s held now))
+      run_failed lent w = on_err_weaker r (λ x. one (subst (λ (i : ℕ). Broken (stage_at i) s after now) begins_at x)) w
+        where
+          one : Broken (stage_at (body_at hand)) s after now → IfSome first (λ l. Failed l lent s held now)
+          one x = IfSome_then first (tape_broken hand accepts_it s₀ opening_is.rows unread held first k.read s after now x) (λ l y. partly y)
+
+  module _ (f : t ≡ false) (v : V) (y : x ≡ Ok v) {V' E' : Type 0} (now : Option (List ℕ)) (r : Result V' E') (w : Sent held now (line_text 0 (reported o)) r) where
     refuses_it : is_applied (open_tape hand).answer ≡ false
     refuses_it = ap is_applied (sym opening_is.answer) ∙ sym p ∙ f
 
@@ -379,12 +404,13 @@ module _ {V E : Type 0} (hand h : List ℕ) (e : h ≡ hand) (first unread held 
     sent_it : Sent held now (line_text 0 (reported (open_tape hand).answer)) r
     sent_it = subst (λ (i : Answer). Sent held now (line_text 0 (reported i)) r) opening_is.answer w
 
-    pub run_refused : (v' : V') → r ≡ Ok v' → Ran H.Stopped o.store first unread held now
+    pub run_refused : (v' : V') → r ≡ Ok v' → Ran H.Stopped s₀ first unread held now
     run_refused v' u =
-        refused_ran first unread hand refuses_it k.read there held now V' E' r sent_it o.store opening_is.rows opening_is.sounds v' u
+        refused_ran first unread hand refuses_it k.read there held now V' E' r sent_it s₀ opening_is.rows opening_is.sounds v' u
 
-    pub run_refused_known : (v' : V') → r ≡ Ok v' → IfSome first (λ l. Ended l H.Stopped o.store held now)
-    run_refused_known v' u = ran_known H.Stopped o.store first unread held now (run_refused v' u)
+    pub run_refused_known : (v' : V') → r ≡ Ok v' → IfSome first (λ l. Ended l H.Stopped s₀ held now)
+    run_refused_known v' u = ran_known H.Stopped s₀ first unread held now (run_refused v' u)
 
-    pub run_refused_failed : IfSome first (λ l. Beginning l held now)
-    run_refused_failed = refused_broken first unread hand refuses_it k.read there held now V' E' r sent_it
+    pub run_refused_failed : (lent : List ℕ) → IfSome first (λ l. Failed l lent s₀ held now)
+    run_refused_failed lent =
+        IfSome_then first (refused_broken first unread hand refuses_it k.read there held now V' E' r sent_it s₀ opening_is.rows opening_is.sounds) (λ l y. partly y)

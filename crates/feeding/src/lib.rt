@@ -3,18 +3,19 @@
 // A tape, run as it is read: never more than a buffer of it is held. Its lines go to a writer.
 ghost use Rattle.chunks.specs.Chunks.{lines_text};
 ghost use Rattle.feeding.specs.Feeding.{end_of, Over, Broken, Turned};
-ghost use Rattle.feeding.specs.Whole.{Ran, Ended, Beginning, OpeningRead};
+ghost use Rattle.feeding.specs.Whole.{Ran, Ended, Failed, OpeningRead};
 ghost use Rattle.input.specs.Filled.{hand, rest};
-ghost use Rattle.metadata.specs.Stored.{sound};
+ghost use Rattle.layout.specs.Layout.{sound};
+ghost use Rattle.layout.specs.Places.{store_length};
 ghost use Rattle.printing.specs.Sent.{Sent};
 ghost use Rattle.reading.specs.Places.{stop_of, is_unknown};
 ghost use Rattle.reading.specs.Reader.{next_at};
-ghost use Rattle.std.specs.Prelude.{◌≡◌, true, false, ◌≤◌, IfOk, IfSome, OnErr};
+ghost use Rattle.std.specs.Prelude.{◌≡◌, true, false, ◌≤◌, length, IfOk, IfSome, OnErr};
 
 use arrayvec::ArrayString;
 use chunks::{Pause, run_chunk};
 use input::{BUFFER_SIZE, Buffer};
-use metadata::{Answer, Store, TABLE_ROOM, TapeFault};
+use metadata::{Answer, TABLE_ROOM, TapeFault};
 use printing::{emit, print_line};
 use reading::{HEAD, Next, body_at, next_at, open_tape};
 use std::io;
@@ -69,7 +70,7 @@ fn finish<W: Write>(out: &mut W, left: &[u8], line: u64) -> io::Result<End>
 fn turn<R: Read, W: Write>(
     input: &mut R,
     out: &mut W,
-    store: &mut Store,
+    store: &mut [u8],
     buffer: &mut Buffer,
     from: Place,
 ) -> Result<Progress, Failure>
@@ -103,7 +104,7 @@ fn turn<R: Read, W: Write>(
 fn feed_all<R: Read, W: Write>(
     input: &mut R,
     out: &mut W,
-    store: &mut Store,
+    store: &mut [u8],
     buffer: &mut Buffer,
     from: Place,
 ) -> Result<End, Failure>
@@ -122,13 +123,6 @@ fn feed_all<R: Read, W: Write>(
     Err(Failure::Input(io::Error::from(ErrorKind::TimedOut)))
 }
 
-// What the run of a tape leaves: the store, and how the tape ended.
-#[derive(Clone, Copy)]
-pub struct Left {
-    pub store: Store,
-    pub end: End,
-}
-
 // The opening is read whole before it is looked at. More tables than there is room for are refused by the head alone.
 #[tactic(auto, using(crate::proofs::Opened::opening))]
 fn read_opening<R: Read>(input: &mut R, buffer: &mut Buffer) -> io::Result<()>
@@ -144,31 +138,29 @@ fn read_opening<R: Read>(input: &mut R, buffer: &mut Buffer) -> io::Result<()>
     buffer.fill_to(input, body)
 }
 
-// The tape on an input, its lines on an output. After a failure nothing more is run or written.
+// The tape on an input, its lines on an output, its rows in a lent block. After a failure nothing more is run or written.
 #[tactic(auto, using(crate::proofs::Opened::opened_inside, crate::proofs::Opened::opened_sound))]
-pub fn run_tape<R: Read, W: Write>(input: &mut R, out: &mut W) -> Result<Left, Failure>
-    ensures ran { IfOk result (λ r. Ran r.end r.store (R.remaining input.old) (R.remaining input.new) (W.contents out.old) (W.contents out.new)) }
-    ensures whole { IfOk result (λ r. IfSome (R.remaining input.old) (λ tape. Ended tape r.end r.store (W.contents out.old) (W.contents out.new))) }
-    ensures failed { OnErr result (IfSome (R.remaining input.old) (λ tape. Beginning tape (W.contents out.old) (W.contents out.new))) }
+pub fn run_tape<R: Read, W: Write>(
+    input: &mut R,
+    out: &mut W,
+    store: &mut [u8],
+) -> Result<End, Failure>
+    requires { length store.old ≡ store_length }
+    ensures ran { IfOk result (λ how. Ran how store.new (R.remaining input.old) (R.remaining input.new) (W.contents out.old) (W.contents out.new)) }
+    ensures whole { IfOk result (λ how. IfSome (R.remaining input.old) (λ tape. Ended tape how store.new (W.contents out.old) (W.contents out.new))) }
+    ensures failed { OnErr result (IfSome (R.remaining input.old) (λ tape. Failed tape store.old store.new (W.contents out.old) (W.contents out.new))) }
 {
     let mut buffer = Buffer::new();
     if let Err(e) = read_opening(input, &mut buffer) {
         return Err(Failure::Input(e));
     }
-    let opening = open_tape(buffer.at_hand());
-    let mut store = opening.store;
-    if !opening.answer.is_applied() {
-        return match print_line(out, 0, opening.answer) {
+    let answer = open_tape(buffer.at_hand(), store);
+    if !answer.is_applied() {
+        return match print_line(out, 0, answer) {
             Err(e) => Err(Failure::Output(e)),
-            Ok(()) => Ok(Left {
-                store,
-                end: End::Stopped,
-            }),
+            Ok(()) => Ok(End::Stopped),
         };
     }
     let at = body_at(buffer.at_hand());
-    match feed_all(input, out, &mut store, &mut buffer, Place { at, line: 1 }) {
-        Err(e) => Err(e),
-        Ok(end) => Ok(Left { store, end }),
-    }
+    feed_all(input, out, store, &mut buffer, Place { at, line: 1 })
 }

@@ -3,7 +3,7 @@
 // A list in a fixed room.
 ghost use Rattle.std.specs.Prelude.{◌≡◌, ◌<◌, ◌≤◌, [], ◌∷◌, ◌++◌, List, leb, length, take};
 
-use metadata::NodeDescriptor;
+use rows::NodeBytes;
 use std::marker::Model;
 
 // The elements in the first count places; no one reads those behind them.
@@ -14,8 +14,8 @@ pub struct FixedList<T, const N: usize> {
     places: [T; N],
 }
 
-// Nodes in a list, each behind a reference.
-pub type NodeList<'a, const N: usize> = FixedList<&'a NodeDescriptor, N>;
+// Nodes in a list, each where its row stands.
+pub type NodeList<'a, const N: usize> = FixedList<&'a NodeBytes, N>;
 
 impl<T, const N: usize> Model for FixedList<T, N> {
     ghost Value = { List T };
@@ -44,7 +44,7 @@ impl<T: Copy, const N: usize> FixedList<T, N> {
         &self.places[..self.count]
     }
 
-    // The count is never above the room, by the invariant; `Table::is_full` judges such a count too.
+    // The count is never above the room, by the invariant.
     pub fn is_full(&self) -> bool
         ensures { result ≡ leb N (length self.now) }
     {

@@ -104,13 +104,7 @@ module _ {A F : Type 0} where
     pub place_from_position : (p : A → Bool) (l : List A) (r : Option ℕ) → Stops g s u f (r ≡ None) (λ xs. r ≡ Some (length xs)) → iter_rest s ≡ l → Tells g f p → r ≡ find_index p l
     place_from_position p l r h e t = position_from_yields_List p u f r h (YieldsList-from_slice l e) t ∙ position_is p l
 
-  pub row_from_find : {g : Mut F (Bor (Bor A) × ⊤) Bool} {s : Iter A} (u : Iter A) (f : F) (T : Keyed A) (d : A) (k : T.Key) (l : List A) (r : Option (Bor A))
-      → (xs : List (Bor A)) × (j : F) × YieldsThen fronts s xs r u × FoldsTo (λ p x q. CalledAt g p x false q) f xs j × MatchOption r ⊤ (λ x. (h : F) × CalledAt g j x true h)
-      → iter_rest s ≡ l → ((x : Bor A) (b : Bool) (q : F) → CalledAt g f x b q → (q ≡ f) × (b ≡ under T k x.now))
-      → MatchOption r (has T k l ≡ false) (λ x. (has T k l ≡ true) × (row T d k l ≡ x.now))
-  row_from_find u f T d k l r h e t = row_found T k d (λ x. x.now) l r (find_from_yields_List (under T k) u f r h (YieldsList-from_slice l e) t)
-
-  -- the same, where f reads what the rows say
+  -- the row itself, where f reads what the rows say
   pub read_from_find : {B : Type 0} (f : A → B) {g : Mut F (Bor (Bor A) × ⊤) Bool} {s : Iter A} (u : Iter A) (c : F) (T : Keyed B) (d : B) (k : T.Key) (l : List A) (r : Option (Bor A))
       → (xs : List (Bor A)) × (j : F) × YieldsThen fronts s xs r u × FoldsTo (λ p x q. CalledAt g p x false q) c xs j × MatchOption r ⊤ (λ x. (h : F) × CalledAt g j x true h)
       → iter_rest s ≡ l → ((x : Bor A) (b : Bool) (q : F) → CalledAt g c x b q → (q ≡ c) × (b ≡ under T k (f x.now)))

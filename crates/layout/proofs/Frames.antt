@@ -1,11 +1,11 @@
 -- One part of a directory or of a catalog written anew: the other parts are as they were. Assumes nothing.
 use borrow.Rule.Slice.PartMut.{put_mid}
 use Rattle.std.specs.Prelude.{◌≡◌, ℕ, ◌+◌, ◌-◌, ◌≤◌, List, ◌++◌, length, take, drop}
-use Rattle.std.proofs.Common.{refl, sym, ap, ◌∙◌, arith}
+use Rattle.std.proofs.Common.{refl, ap, ◌∙◌, arith}
 use Rattle.std.proofs.lemmas.List.{take_at, drop_at, length-append, length-drop}
-use Rattle.encode.specs.Encode.{name_row, marks_at}
+use Rattle.encode.specs.Encode.{name_row}
 use Rattle.laws.specs.Bytes.{field_at}
-use Rattle.layout.specs.Layout.{name_of, marks_of, nodes_part, tables_part, tablets_part, placements_part, retirements_part}
+use Rattle.layout.specs.Layout.{name_of, nodes_part, tables_part, tablets_part, placements_part, retirements_part}
 use Rattle.layout.specs.Places.{
   name_length,
   nodes_place,

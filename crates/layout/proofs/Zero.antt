@@ -1,4 +1,4 @@
--- A block of zeros is sound, and is the store before any opening: no name, no rows, the marks zero. Assumes nothing.
+-- A block of zeros is sound, and is the store of a refused opening: no name, no rows, the marks zero; and what it answers. Assumes nothing.
 use Rattle.std.specs.Prelude.{◌≡◌, ℕ, ◌+◌, ◌*◌, ◌≤◌, true, List, [], map, replicate}
 use Rattle.std.proofs.Common.{refl, ap, ◌∙◌, arith, eq-eqb}
 use Rattle.std.proofs.lemmas.List.{length-replicate}
@@ -10,9 +10,17 @@ use Rattle.encode.specs.Encode.{name_row, marks_at}
 use Rattle.rows.specs.Rows.{node_row, table_row, tablet_row, placement_row, retirement_row}
 use Rattle.encode.specs.Widths.{node_width, table_width, tablet_width, placement_width, retirement_width}
 use Rattle.metadata.specs.Rooms.{node_room, table_room, tablet_room, retirement_room}
-use Rattle.metadata.specs.Texts.{no_name}
+use Rattle.metadata.specs.Texts.{Name, no_name}
 use Rattle.metadata.specs.Opening.{empty_rows, no_marks, refused_rows}
 use Rattle.metadata.specs.Sound.{sound_rows}
+use Rattle.metadata.specs.declared.Command.{Command}
+use Rattle.metadata.specs.declared.Command.TheVariants.{Naming as naming}
+use Rattle.metadata.specs.Commands.{faults, naming_faults, lowest, needs_name}
+use Rattle.metadata.specs.Answers.{and_then, refuse}
+use Rattle.metadata.specs.Nodes.{judge_naming}
+use Rattle.metadata.specs.Model.{StoreRows, judge, admission, decided, decide}
+use Rattle.metadata.specs.declared.Answer.{Answer}
+use Rattle.metadata.specs.declared.Answer.TheVariants as A
 use Rattle.metadata.proofs.Opened.{refused_sound}
 use Rattle.layout.specs.Layout.{directory_part, catalog_part, directory_of, catalog_of, store_of, name_of, marks_of, tidy_directory, tidy_catalog, sound}
 use Rattle.layout.specs.Places.{
@@ -108,3 +116,19 @@ zero_sound =
       eq-eqb _ _ (length-replicate {A = ℕ} store_length 0),
       (ap tidy_directory directory_zero ∙ directory_tidy, (ap tidy_catalog catalog_zero ∙ catalog_tidy, (ap sound_rows zero_block ∙ refused_sound, tt))),
     )
+
+-- it answers as the store of a refused opening: without a name, all but naming and picking is refused
+unnamed : (c : Command) (judged : Answer) → lowest (faults c) ≡ 0 → needs_name c ≡ true → decided no_name c judged ≡ A.NotInitialized
+unfolding decided admission and_then refuse
+unnamed c judged h n = simp (h, n)
+
+pub zero_registers : (c : Command) → lowest (faults c) ≡ 0 → needs_name c ≡ true → decide (store_of (replicate store_length 0)) c ≡ A.NotInitialized
+zero_registers c h n = ap (λ (s : StoreRows). decide s c) zero_block ∙ unnamed c (judge refused_rows c) h n
+
+named : (t : Name) → lowest (naming_faults t) ≡ 0 → decide refused_rows (naming t) ≡ A.Applied
+unfolding decided admission and_then refuse judge_naming
+named t h = simp (h)
+
+-- and an admitted name is given to it
+pub zero_names : (t : Name) → lowest (faults (naming t)) ≡ 0 → decide (store_of (replicate store_length 0)) (naming t) ≡ A.Applied
+zero_names t h = ap (λ (s : StoreRows). decide s (naming t)) zero_block ∙ named t h

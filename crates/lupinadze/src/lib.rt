@@ -5,6 +5,8 @@ ghost use Rattle.std.specs.Prelude.{◌≡◌, length};
 ghost use Rattle.tape.specs.Tape.{outcome, ran_out};
 ghost use Rattle.lupinadze.specs.Linked.{run_result};
 
+use layout::STORE_BYTES;
+
 // Given in place of a number of answers where the list is too short.
 pub const LUPINADZE_SHORT: u64 = 18446744073709551615;
 
@@ -13,9 +15,10 @@ pub const LUPINADZE_SHORT: u64 = 18446744073709551615;
 pub extern "C" fn lupinadze_answers(tape: &[u8]) -> u64
     ensures { result ≡ length (outcome tape.now) }
 {
+    let mut store = [0u8; STORE_BYTES];
     // no answer has room in one number, so that the run counts and stops
     let mut no_room: [u64; 1] = [0; 1];
-    let counted = tape::run(tape, &mut no_room);
+    let counted = tape::run(tape, &mut store, &mut no_room);
     counted.lines as u64
 }
 
@@ -26,7 +29,8 @@ pub extern "C" fn lupinadze_run(tape: &[u8], out: &mut [u64]) -> u64
     ensures result { result ≡ run_result tape.now (length out.old) }
     ensures out { out.new ≡ ran_out tape.now out.old }
 {
-    let done = tape::run(tape, out);
+    let mut store = [0u8; STORE_BYTES];
+    let done = tape::run(tape, &mut store, out);
     if done.short {
         return LUPINADZE_SHORT;
     }

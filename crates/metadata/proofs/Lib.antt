@@ -8,13 +8,9 @@ pub mod Copies
 pub mod Epochs
 pub mod Unretired
 pub mod Disjoint
-pub mod ZeroRows
-pub mod SoundTable
 pub mod SoundRows
-pub mod Stored
 pub mod Opened
 pub mod Theorem
 pub mod Trials
 pub mod Samples
 pub mod Each
-pub mod Lookups

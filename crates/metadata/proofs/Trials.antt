@@ -16,7 +16,6 @@ use Rattle.text.specs.Ranges.{lex_leb, overlapb, later_start}
 use Rattle.metadata.specs.Labels.{new_label, distinct, regions, zones, racks, locality_gain, better, candidate, step_best, best_of, choose_from, choose, judge_picking}
 use Rattle.metadata.specs.Answers.{and_then, reported, report, refuse, each}
 use Rattle.metadata.specs.Tables.{same_node_directory, same_node, same_partition, same_tablet, same_policy, same_placement}
-use Rattle.metadata.specs.Zeros.{zero_replica}
 use Rattle.metadata.specs.Commands.{Command, naming, registering, lifecycle, tablet, placement, lowest, node_texts_admitted, partition_admitted, replicas_admitted, minima_admitted, leaders_admitted, class_blank}
 use Rattle.metadata.specs.Nodes.{
   judge_naming,
@@ -102,7 +101,7 @@ place k epoch l =
       tablet_id = record { 0 = k };
       configuration_epoch = epoch;
       replica_count = length l;
-      replicas = l ++ replicate (replica_room - length l) zero_replica;
+      replicas = l ++ replicate (replica_room - length l) (replica 0 0);
       placement_policy =
           record {
             replication_factor = length l;

@@ -25,13 +25,7 @@ OptionalName = Optional name_width
 abbrev pub OptionalLabel : Type 0
 OptionalLabel = Optional label_width
 
--- the bytes of each, and when two are the same
-abbrev pub name_text : Name → List ℕ
-name_text t = T.text_of t
-
-abbrev pub label_text : Label → List ℕ
-label_text t = T.text_of t
-
+-- the bytes of a key, and when two texts are the same
 abbrev pub key_text : Key → List ℕ
 key_text t = T.text_of t
 
@@ -87,12 +81,6 @@ optional_admitted t = T.optional_admitted 0 32 126 t
 -- ---- nothing
 -- the zeros and the blank of each width: names, a line each
 
-abbrev pub zero_name : Name
-zero_name = T.zero_text
-
-abbrev pub zero_label : Label
-zero_label = T.zero_text
-
 abbrev pub zero_key : Key
 zero_key = T.zero_text
 
@@ -101,9 +89,6 @@ no_name = T.no_text
 
 abbrev pub no_label : OptionalLabel
 no_label = T.no_text
-
-abbrev pub is_no_label : OptionalLabel → Bool
-is_no_label t = T.is_no_text t
 
 -- what is read past an array's end: numbers 0 and no bytes
 abbrev pub blank_name : Name

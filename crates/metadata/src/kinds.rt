@@ -1,9 +1,7 @@
 // What an answer names: a failure domain, a kind of table, a fault of a tape. Each has document 01's number; `number` says which number that is, `u8::from` would not,
 // and stands at each of the three, since nothing asks for the number of any of them.
-ghost use Rattle.metadata.specs.Kinds.{domain_number, fault_number, label_of, table_number};
+ghost use Rattle.metadata.specs.Kinds.{domain_number, fault_number, table_number};
 ghost use Rattle.std.specs.Prelude.{◌≡◌};
-
-use crate::{NodeDescriptor, OptionalLabel};
 
 // What keeps copies apart: each node has a label for it.
 #[derive(Clone, Copy, PartialEq, Eq, Debug)]
@@ -21,16 +19,6 @@ impl Domain {
             Domain::Region => 0,
             Domain::Zone => 1,
             Domain::Rack => 2,
-        }
-    }
-
-    pub fn label_of(self, n: &NodeDescriptor) -> &OptionalLabel
-        ensures { result.now ≡ label_of self n.now }
-    {
-        match self {
-            Domain::Region => &n.region,
-            Domain::Zone => &n.zone,
-            Domain::Rack => &n.rack,
         }
     }
 }

@@ -12,7 +12,6 @@ mod rows;
 pub use kinds::{Domain, TableKind, TapeFault};
 pub use lifecycle::NodeLifecycle;
 pub use rows::ReplicaKey;
-use table::Table;
 use text::{Optional, Text};
 
 // The tables of the metadata store: who holds what. Types carry the names of the Rust source where it has one.
@@ -184,40 +183,6 @@ impl MetadataAllocatorState {
     }
 }
 
-// One table for each kind of row: the first count rows, rising by id; the rest are zero rows.
-pub type Nodes = Table<NodeDescriptor, NODE_ROOM>;
-
-pub type Tables = Table<TableRow, TABLE_ROOM>;
-
-pub type Tablets = Table<TabletDescriptor, TABLET_ROOM>;
-
-pub type Placements = Table<DesiredReplicaPlacement, TABLET_ROOM>;
-
-pub type Retirements = Table<RetiredReplicaLifetime, RETIREMENT_ROOM>;
-
-// The cluster's name and its machines.
-#[derive(Clone, Copy)]
-pub struct Directory {
-    pub cluster_id: OptionalName,
-    pub nodes: Nodes,
-}
-
-// What the machines hold.
-#[derive(Clone, Copy)]
-pub struct Catalog {
-    pub tables: Tables,
-    pub tablets: Tablets,
-    pub placements: Placements,
-    pub retirements: Retirements,
-    pub marks: MetadataAllocatorState,
-}
-
-#[derive(Clone, Copy)]
-pub struct Store {
-    pub directory: Directory,
-    pub catalog: Catalog,
-}
-
 // Document 01's answers and refusals, from 0 on; specs/Answers.antt gives each its number and operands. An operand is a
 // number here where it repeats one that was brought (a lifecycle, a byte), or where document 01 counts: the lowest reason, the place of a field.
 #[derive(Clone, Copy)]
@@ -275,13 +240,6 @@ pub enum Command {
 pub struct Reported {
     pub number: u8,
     pub operands: [u64; 3],
-}
-
-// What an opening gives: its answer, and the store, which is there where it is refused too. So it is no `Result`.
-#[derive(Clone, Copy)]
-pub struct Answered {
-    pub answer: Answer,
-    pub store: Store,
 }
 
 // The first choice: the nodes in order of choice, zero where a place is not filled, and their policy. An array with its count, since there is no heap.

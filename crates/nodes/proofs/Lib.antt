@@ -2,4 +2,3 @@
 pub mod Advance
 pub mod Endpoints
 pub mod Expected
-pub mod Packed

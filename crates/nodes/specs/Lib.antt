@@ -1,3 +1,2 @@
 -- The definitions that this crate adds to those of `metadata`. Assumes nothing.
-pub mod Left
 pub mod Steps

@@ -18,11 +18,11 @@ expected_of k placements t = each (expected_at k t) (desired (placement_of t.tab
 abbrev pub leaves : ℕ → Bool
 leaves to = eqb to 3 || eqb to 4
 
--- judge_lifecycle of a node that is known, by its row
-unfoldable pub judge_move : NodeDescriptor → List TabletDescriptor → List DesiredReplicaPlacement → NodeId → ℕ → Answer
-judge_move old tablets placements k to =
-    refuse (eqb old.lifecycle to) A.AlreadyApplied
-    ⊳ refuse (not (lifecycle_can_advance old.lifecycle to)) (A.InvalidNodeLifecycleTransition k old.lifecycle to)
+-- judge_lifecycle of a node that is known, by its lifecycle
+unfoldable pub judge_move : ℕ → List TabletDescriptor → List DesiredReplicaPlacement → NodeId → ℕ → Answer
+judge_move from tablets placements k to =
+    refuse (eqb from to) A.AlreadyApplied
+    ⊳ refuse (not (lifecycle_can_advance from to)) (A.InvalidNodeLifecycleTransition k from to)
     ⊳ cond (leaves to) (still_expected k tablets placements) A.Applied
 
 -- judge_known_node, by the node's row
@@ -30,4 +30,4 @@ unfoldable pub judge_known_row : NodeDescriptor → List TabletDescriptor → Li
 judge_known_row old tablets placements n =
     refuse (same_node old n) A.AlreadyApplied
     ⊳ refuse (not (same_node_directory old n)) (A.NodeIdConflict n.node_id)
-    ⊳ judge_move old tablets placements n.node_id n.lifecycle
+    ⊳ judge_move old.lifecycle tablets placements n.node_id n.lifecycle

@@ -1,13 +1,11 @@
 #![tactic(auto)]
 
-// The nodes of the store: the cluster's name, a node's lifecycle, registering, and what an Applied command changes of their table.
-mod changes;
+// The nodes of the store: the cluster's name, a node's lifecycle, registering.
 mod clashes;
 mod lifecycle;
 mod naming;
 mod registering;
 
-pub use changes::{move_node, register_node};
 pub use clashes::clash;
 pub use lifecycle::{judge_lifecycle, lifecycle_can_advance, still_expected};
 pub use naming::judge_naming;

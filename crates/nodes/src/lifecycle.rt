@@ -1,15 +1,16 @@
 // Lifecycle: a node moves one step forward at a time, and leaves only when no tablet expects it.
 ghost use Rattle.metadata.specs.Answers.{Gives, each};
-ghost use Rattle.metadata.specs.Stored.{view_nodes, view_tablets, view_placements};
 ghost use Rattle.metadata.specs.Nodes.{lifecycle_can_advance, expected_at, still_expected, judge_lifecycle};
 ghost use Rattle.metadata.specs.Tables.{desired};
 ghost use Rattle.nodes.specs.Steps.{expected_of, leaves, judge_move};
+ghost use Rattle.rows.specs.Rows.{node_rows, tablet_row, tablet_rows, placement_rows};
 ghost use Rattle.std.specs.Prelude.{◌≡◌};
 
-use metadata::{
-    Answer, DesiredReplica, DesiredReplicaPlacement, NodeDescriptor, NodeId, NodeLifecycle, Nodes,
-    Placements, TabletDescriptor, Tablets,
+use metadata::{Answer, DesiredReplica, DesiredReplicaPlacement, NodeId, NodeLifecycle};
+use rows::{
+    NodeBytes, Nodes, PlacementBytes, Placements, TabletBytes, group_of, lifecycle, tablet_id,
 };
+use tables::{get, stored};
 
 // `from` and `to` are the bytes that rows and commands hold; what is no station is answered, and not ruled out by a type.
 // Only one step forward; no move from or to what is no station.
@@ -38,19 +39,19 @@ fn leaves(to: u8) -> bool
 
 // The copy does not stand on the node.
 #[tactic(auto, unfolding(metadata::specs::Answers::refuse))]
-fn expected_on(k: NodeId, t: &TabletDescriptor, r: &DesiredReplica) -> Result<(), Answer>
-    ensures { Gives result (expected_at k t.now r.now) }
+fn expected_on(k: NodeId, t: &TabletBytes, r: &DesiredReplica) -> Result<(), Answer>
+    ensures { Gives result (expected_at k (tablet_row t.now) r.now) }
 {
     if r.node_id == k {
-        return Err(Answer::NodeStillExpected(k, t.raft_group_id, r.replica_id));
+        return Err(Answer::NodeStillExpected(k, group_of(t), r.replica_id));
     }
     Ok(())
 }
 
 // No copy of the placement stands on the node.
 #[tactic(auto, using(metadata::proofs::Each::each_rules))]
-fn expected_in(k: NodeId, t: &TabletDescriptor, p: &DesiredReplicaPlacement) -> Result<(), Answer>
-    ensures { Gives result (each (expected_at k t.now) (desired p.now)) }
+fn expected_in(k: NodeId, t: &TabletBytes, p: &DesiredReplicaPlacement) -> Result<(), Answer>
+    ensures { Gives result (each (expected_at k (tablet_row t.now)) (desired p.now)) }
 {
     for r in p.desired() {
         expected_on(k, t, r)?;
@@ -59,40 +60,43 @@ fn expected_in(k: NodeId, t: &TabletDescriptor, p: &DesiredReplicaPlacement) -> 
 }
 
 // No copy of the tablet stands on the node; without a placement there is none.
-#[tactic(auto, unfolding(crate::specs::Steps::expected_of, metadata::specs::Answers::each), using(metadata::proofs::Lookups::placement_there, laws::proofs::KeyedLaws::row_absent))]
-fn expected_of(k: NodeId, t: &TabletDescriptor, placements: &Placements) -> Result<(), Answer>
-    ensures { Gives result (expected_of k (view_placements placements.now) t.now) }
+#[tactic(auto, unfolding(crate::specs::Steps::expected_of, metadata::specs::Answers::each), using(laws::proofs::KeyedLaws::row_absent))]
+fn expected_of(k: NodeId, t: &TabletBytes, placements: &[PlacementBytes]) -> Result<(), Answer>
+    ensures { Gives result (expected_of k (placement_rows placements.now) (tablet_row t.now)) }
 {
-    match placements.get(t.tablet_id) {
-        Some(p) => expected_in(k, t, p),
+    match get::<Placements>(placements, tablet_id(t)) {
+        Some(p) => expected_in(k, t, &p),
         None => Ok(()),
     }
 }
 
 // No copy stands on the node: asked by tablet id, then in the placement's order.
 #[tactic(auto, using(metadata::proofs::Each::each_rules, crate::proofs::Expected::by_tablet))]
-pub fn still_expected(k: NodeId, tablets: &Tablets, placements: &Placements) -> Result<(), Answer>
-    ensures { Gives result (still_expected k (view_tablets tablets.now) (view_placements placements.now)) }
+pub fn still_expected(
+    k: NodeId,
+    tablets: &[TabletBytes],
+    placements: &[PlacementBytes],
+) -> Result<(), Answer>
+    ensures { Gives result (still_expected k (tablet_rows tablets.now) (placement_rows placements.now)) }
 {
-    for t in tablets.used() {
+    for t in tablets {
         expected_of(k, t, placements)?;
     }
     Ok(())
 }
 
-// Whether a node that is known may move there, by its row; who expects it is asked only where it leaves.
+// Whether a node that is known may move there, by its lifecycle; who expects it is asked only where it leaves.
 // `k` and `to` are the operands of the command, here and below; registering brings them in a row.
 #[tactic(auto, unfolding(crate::specs::Steps::judge_move, metadata::specs::Answers::refuse, metadata::specs::Answers::and_then))]
 pub fn judge_move(
-    old: &NodeDescriptor,
-    tablets: &Tablets,
-    placements: &Placements,
+    from: u8,
+    tablets: &[TabletBytes],
+    placements: &[PlacementBytes],
     k: NodeId,
     to: u8,
 ) -> Result<(), Answer>
-    ensures { Gives result (judge_move old.now (view_tablets tablets.now) (view_placements placements.now) k to) }
+    ensures { Gives result (judge_move from (tablet_rows tablets.now) (placement_rows placements.now) k to) }
 {
-    let from = old.lifecycle;
     if from == to {
         return Err(Answer::AlreadyApplied);
     }
@@ -107,18 +111,18 @@ pub fn judge_move(
 
 // The same by its id.
 // A check is lent the tables that it reads, one by one: a struct of all four would hide which it reads.
-#[tactic(auto, unfolding(metadata::specs::Nodes::judge_lifecycle, crate::specs::Steps::judge_move, metadata::specs::Answers::refuse, metadata::specs::Answers::and_then), using(metadata::proofs::Lookups::node_there))]
+#[tactic(auto, unfolding(metadata::specs::Nodes::judge_lifecycle, crate::specs::Steps::judge_move, metadata::specs::Answers::refuse, metadata::specs::Answers::and_then))]
 pub fn judge_lifecycle(
-    nodes: &Nodes,
-    tablets: &Tablets,
-    placements: &Placements,
+    nodes: &[NodeBytes],
+    tablets: &[TabletBytes],
+    placements: &[PlacementBytes],
     k: NodeId,
     to: u8,
 ) -> Result<(), Answer>
-    ensures { Gives result (judge_lifecycle (view_nodes nodes.now) (view_tablets tablets.now) (view_placements placements.now) k to) }
+    ensures { Gives result (judge_lifecycle (node_rows nodes.now) (tablet_rows tablets.now) (placement_rows placements.now) k to) }
 {
-    let Some(old) = nodes.get(k) else {
+    let Some(old) = stored::<Nodes>(nodes, k) else {
         return Err(Answer::UnknownNode(k));
     };
-    judge_move(old, tablets, placements, k, to)
+    judge_move(lifecycle(old), tablets, placements, k, to)
 }

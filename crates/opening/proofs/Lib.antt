@@ -1,3 +1,3 @@
 -- The laws that belong to no one function. Assumes nothing.
 pub mod Sorting
-pub mod Opened
+pub mod Filling

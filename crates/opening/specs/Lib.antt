@@ -1,1 +1,2 @@
-pub mod Opened
+-- The definitions that the contracts cite. Assumes nothing.
+pub mod Filled

@@ -4,6 +4,7 @@
 // more than a buffer of the tape. With --dump it prints the final tables and marks behind the last line. What failed is said on standard error.
 use dump::dump_store;
 use feeding::{End, Failure, run_tape};
+use layout::STORE_BYTES;
 use std::env::{Env, FillError};
 use std::io;
 use std::io::Print;
@@ -73,13 +74,14 @@ fn run(rt: HostRuntime, mode: Mode) -> Result<End, Failure> {
         stream: rt.stdout(),
         clock: rt,
     };
-    let ran = run_tape(&mut input, &mut out)?;
+    let mut store = [0u8; STORE_BYTES];
+    let end = run_tape(&mut input, &mut out, &mut store)?;
     if mode == Mode::LinesAndDump {
-        if let Err(e) = dump_store(&mut out, &ran.store) {
+        if let Err(e) = dump_store(&mut out, &store) {
             return Err(Failure::Output(e));
         }
     }
-    Ok(ran.end)
+    Ok(end)
 }
 
 // What failed, in the system's words and with its number. A failure to say so is passed over: the status says it too.

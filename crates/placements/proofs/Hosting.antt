@@ -1,5 +1,5 @@
 -- The check of each replica in turn, which keeps what each hands on, as a loop. Assumes nothing.
-use Rattle.std.specs.Prelude.{◌≡◌, ℕ, ◌+◌, ◌<◌, ◌≤◌, false, List, [], ◌∷◌, ◌++◌, length, get_or, take, map}
+use Rattle.std.specs.Prelude.{◌≡◌, ℕ, ◌+◌, ◌<◌, ◌≤◌, false, List, [], ◌∷◌, ◌++◌, length, get_or, take, map, Result, Ok, Err, IsErr, IsErrAnd}
 use Rattle.std.proofs.Common.{arith, refl, ap, ◌∙◌}
 use Rattle.std.proofs.lemmas.List.{map-append, take_more}
 use lib.ListN.{length-append}
@@ -11,6 +11,7 @@ use Rattle.metadata.specs.Tables.{node_of}
 use Rattle.metadata.specs.declared.NodeDescriptor.{NodeDescriptor}
 use Rattle.metadata.specs.declared.DesiredReplica.{DesiredReplica}
 use Rattle.metadata.proofs.Each.{EachFrom, each_start, each_next, each_stop, each_end}
+use Rattle.placements.specs.HandsOn.{HandsOn}
 
 -- the node of a replica, as `hosts` has it
 abbrev pub host_of : List NodeDescriptor → DesiredReplica → NodeDescriptor
@@ -38,8 +39,11 @@ module _ {X Y B : Type 0} {f : X → Answer} {h : X → B} {v : Y → B} {xs : L
           done = rw (map-append v ys (y ∷ []), take_more xs i d k, map-append h (take i xs), s.done, g);
         }
 
-    pub hosting_stop : (d : X) {a : Answer} → i < length xs → f (get_or xs i d) ≡ a → is_applied a ≡ false → each f xs ≡ a
-    hosting_stop d k e q = each_stop d s.judged k e q
+    -- the way out by `?`: e is what the check of place i refused with, r what the function returns; the loop goes over xs, which is zs
+    pub hosting_refused : {Z : Type 0} {zs : List X} (P : Z → Type 0) (d : X) (r : Result Z Answer) (e : Answer) → xs ≡ zs → i < length xs
+        → (f (get_or xs i d) ≡ e) × (is_applied e ≡ false) → IsErr r × IsErrAnd r (λ w. w ≡ e) → HandsOn r (each f zs) P
+    hosting_refused P d (Ok z) e q k g u = let z = u.0 in cc
+    hosting_refused P d (Err w) e q k g u = rw (u.1, ← q) (each_stop d s.judged k g.0 g.1, g.1)
 
     pub hosting_judged : length xs ≤ i → each f xs ≡ A.Applied
     hosting_judged k = each_end s.judged k
@@ -48,4 +52,4 @@ module _ {X Y B : Type 0} {f : X → Answer} {h : X → B} {v : Y → B} {xs : L
     hosting_done k = s.done ∙ ap (map h) (take_all i xs k)
 
 -- for `using` on `judge_replicas`: its loop, with room for each node, and what it hands on
-pub ruleset hosting = (hosting_start, hosting_room, hosting_next, hosting_stop, hosting_judged, hosting_done)
+pub ruleset hosting = (hosting_start, hosting_room, hosting_next, hosting_judged, hosting_done)

@@ -2,4 +2,3 @@
 pub mod Hosting
 pub mod Kept
 pub mod Looked
-pub mod Packed

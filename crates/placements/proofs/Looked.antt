@@ -1,11 +1,11 @@
 -- The checks of a placement by the rows that the lookups gave. Assumes nothing.
-use Rattle.std.specs.Option.{is_some, option_map}
+use denote.Ref.{Bor}
+use Rattle.std.specs.Option.{is_some, option_map, option_copied}
 use Rattle.std.specs.Prelude.{◌≡◌, ℕ, Bool, true, false, not, cond, ◌&&◌, List, [], ◌∷◌, Option, Some, None, leb, length, MatchOption}
 use Rattle.std.proofs.Common.{refl, sym, ap, ap₂, ◌∙◌}
-use Rattle.laws.specs.Keyed.{Keyed, look, has, row}
-use Rattle.metadata.specs.Answers.{◌⊳◌, refuse, each}
+use Rattle.laws.specs.Keyed.{Keyed, look, has}
+use Rattle.metadata.specs.Answers.{◌⊳◌, and_then, refuse, each}
 use Rattle.metadata.specs.Tables.{tablet_key, placement_key, tablet_of, placement_of, blank_placement, desired, leaders, same_placement}
-use Rattle.metadata.specs.Zeros.{zero_placement}
 use Rattle.metadata.specs.Placements.{judge_replica, judge_leader, hosts, judge_domains, judge_kept_replicas, judge_epoch, judge_new_placement, judge_placement}
 use Rattle.metadata.specs.Rooms.{tablet_room}
 use Rattle.metadata.specs.declared.RaftGroupId.{RaftGroupId}
@@ -47,6 +47,11 @@ pub domains_at : (nodes : List NodeDescriptor) (p : DesiredReplicaPlacement) →
 unfolding judge_domains judge_spread
 domains_at nodes p = refl
 
+-- two checks that pass
+two_passed : (a b : Bool) (x y z : Answer) → a ≡ true → b ≡ false → (refuse (not a) x ⊳ refuse b y ⊳ z) ≡ z
+unfolding refuse and_then
+two_passed a b x y z e f = rw (e, f) refl
+
 -- ---- the checks as wholes
 module _ (nodes : List NodeDescriptor) (tablets : List TabletDescriptor) (placements : List DesiredReplicaPlacement) (retirements : List RetiredReplicaLifetime) (p : DesiredReplicaPlacement) where
   abbrev group : RaftGroupId
@@ -85,17 +90,33 @@ module _ (nodes : List NodeDescriptor) (tablets : List TabletDescriptor) (placem
       (same_go (stored_in p.tablet_id.0 placements) _ _ (has_stored p.tablet_id.0 placements) (of_stored p.tablet_id.0 placements))
       new_after
 
--- what `get` gives, as the placement that is stored; v reads what it gives
-module _ {X : Type 0} (v : X → DesiredReplicaPlacement) (k : ℕ) (l : List DesiredReplicaPlacement) where
+  -- past the first two checks, by what was found: t is the tablet, g its group, o the placement that is stored, q that one as it is lent, n how many are stored
+  pub past_at : (t : TabletDescriptor) (g : RaftGroupId) (o q : Option DesiredReplicaPlacement) (n : ℕ)
+      → has tablet_key p.tablet_id.0 tablets ≡ true → tablet_of p.tablet_id.0 tablets ≡ t → g ≡ t.raft_group_id
+      → o ≡ stored_in p.tablet_id.0 placements → q ≡ o → false ≡ is_stored q p → n ≡ length placements
+      → judge_placement nodes tablets placements retirements p ≡ judge_new_after nodes retirements g q n p
+  past_at t g o q n h e k f a s m =
+      let d : stored_in p.tablet_id.0 placements ≡ q = sym (a ∙ f) in
+      let w : group ≡ g = ap (λ (x : TabletDescriptor). x.raft_group_id) e ∙ sym k in
+      placed_at
+      ∙ two_passed _ _ _ _ _ h (ap (λ x. is_stored x p) d ∙ sym s)
+      ∙ (λ i. judge_new_after nodes retirements (w i) (d i) (sym m i) p)
+
+-- what is lent of an optional placement, read
+pub lent_is : (o : Option (Bor DesiredReplicaPlacement)) → option_map (λ q. q.now) o ≡ option_copied o
+lent_is None = refl
+lent_is (Some q) = refl
+
+-- what `get` gives, as the placement that is stored
+module _ (k : ℕ) (l : List DesiredReplicaPlacement) where
   got_none : (s : Option DesiredReplicaPlacement) → is_some s ≡ false → None ≡ s
   got_none None e = refl
   got_none (Some q) e = cc
 
-  got_some : (s : Option DesiredReplicaPlacement) (q : DesiredReplicaPlacement) → is_some s ≡ true → on_row placement_key zero_placement (λ (x : DesiredReplicaPlacement). x) k s ≡ q → Some q ≡ s
+  got_some : (s : Option DesiredReplicaPlacement) (q : DesiredReplicaPlacement) → is_some s ≡ true → on_row placement_key blank_placement (λ (x : DesiredReplicaPlacement). x) k s ≡ q → Some q ≡ s
   got_some None q e f = cc
   got_some (Some r) q e f = cc
 
-  pub stored_got : (o : Option X) → MatchOption o (has placement_key k l ≡ false) (λ r. (has placement_key k l ≡ true) × (row placement_key zero_placement k l ≡ v r)) → option_map v o ≡ stored_in k l
+  pub stored_got : (o : Option DesiredReplicaPlacement) → MatchOption o (has placement_key k l ≡ false) (λ q. (has placement_key k l ≡ true) × (placement_of k l ≡ q)) → o ≡ stored_in k l
   stored_got None h = got_none (stored_in k l) (sym (has_stored k l) ∙ h)
-  stored_got (Some r) h =
-      got_some (stored_in k l) (v r) (sym (has_stored k l) ∙ h.0) (sym (look_row placement_key zero_placement (λ (x : DesiredReplicaPlacement). x) k l) ∙ h.1)
+  stored_got (Some q) h = got_some (stored_in k l) q (sym (has_stored k l) ∙ h.0) (sym (of_stored k l) ∙ h.1)

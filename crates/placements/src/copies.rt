@@ -2,18 +2,20 @@
 
 // Where each copy and each preferred leader of a tablet may stand (document 01, refusals 17 and 26 to 28).
 ghost use Rattle.metadata.specs.Answers.{Gives, each};
-ghost use Rattle.metadata.specs.Stored.{view_nodes, view_retirements};
 ghost use Rattle.metadata.specs.Placements.{stands_already, eligible, class_differs, judge_replica, judge_leader, hosts};
 ghost use Rattle.metadata.specs.Tables.{node_of, desired, leaders};
 ghost use Rattle.placements.specs.HandsOn.{HandsOn};
+ghost use Rattle.rows.specs.Rows.{node_row, node_rows, retirement_rows};
 ghost use Rattle.std.specs.Prelude.{◌≡◌, map};
 
 use labels::NodeList;
 use metadata::{
-    Answer, DesiredReplica, DesiredReplicaPlacement, NodeDescriptor, NodeId, NodeLifecycle, Nodes,
-    OptionalLabel, PlacementPolicy, REPLICA_ROOM, RaftGroupId, Retirements,
+    Answer, DesiredReplica, DesiredReplicaPlacement, NodeId, NodeLifecycle, OptionalLabel,
+    PlacementPolicy, REPLICA_ROOM, RaftGroupId,
 };
 use retirements::is_replica_retired;
+use rows::{BLANK_NODE, NodeBytes, Nodes, RetirementBytes, is_active, lifecycle, storage_class};
+use tables::stored;
 
 // The same replica stands on the same node already.
 #[tactic(auto, unfolding(metadata::specs::Placements::stands_already))]
@@ -37,30 +39,31 @@ fn eligible(lifecycle: u8, stands: bool) -> bool
 }
 
 // A required class that is present and not the node's.
-#[tactic(auto, unfolding(metadata::specs::Placements::class_differs))]
-fn class_differs(class: &OptionalLabel, n: &NodeDescriptor) -> bool
-    ensures { result ≡ class_differs class.now n.now }
+#[tactic(auto, unfolding(metadata::specs::Placements::class_differs, text::specs::Texts::same_text))]
+fn class_differs(class: &OptionalLabel, n: &NodeBytes) -> bool
+    ensures { result ≡ class_differs class.now (node_row n.now) }
 {
-    class.present && n.storage_class != class.text
+    class.present && storage_class(n) != class.text.text()
 }
 
 // 17, 26, 27 and 28, for one replica; `old` are the replicas of the stored placement. It hands on the replica's node, so that no one looks it up again.
-#[tactic(auto, unfolding(metadata::specs::Placements::judge_replica, metadata::specs::Answers::refuse, metadata::specs::Answers::and_then), using(metadata::proofs::Lookups::node_there))]
+#[tactic(auto, unfolding(metadata::specs::Placements::judge_replica, metadata::specs::Answers::refuse, metadata::specs::Answers::and_then))]
 fn judge_replica<'a>(
-    nodes: &'a Nodes,
-    retirements: &Retirements,
+    nodes: &'a [NodeBytes],
+    retirements: &[RetirementBytes],
     old: &[DesiredReplica],
     group: RaftGroupId,
     class: &OptionalLabel,
     r: &DesiredReplica,
-) -> Result<&'a NodeDescriptor, Answer>
-    ensures { HandsOn result (judge_replica (view_nodes nodes.now) (view_retirements retirements.now) old.now group class.now r.now) (λ n. n.now ≡ node_of r.now.node_id.0 (view_nodes nodes.now)) }
+) -> Result<&'a NodeBytes, Answer>
+    ensures { HandsOn result (judge_replica (node_rows nodes.now) (retirement_rows retirements.now) old.now group class.now r.now) (λ n. node_row n.now ≡ node_of r.now.node_id.0 (node_rows nodes.now)) }
 {
-    let Some(n) = nodes.get(r.node_id) else {
+    let Some(n) = stored::<Nodes>(nodes, r.node_id) else {
         return Err(Answer::UnknownNode(r.node_id));
     };
-    if !eligible(n.lifecycle, stands_already(r, old)) {
-        return Err(Answer::NodeNotEligible(r.node_id, n.lifecycle));
+    let lifecycle = lifecycle(n);
+    if !eligible(lifecycle, stands_already(r, old)) {
+        return Err(Answer::NodeNotEligible(r.node_id, lifecycle));
     }
     if class_differs(class, n) {
         return Err(Answer::PlacementStorageClassMismatch(r.node_id));
@@ -72,23 +75,22 @@ fn judge_replica<'a>(
 }
 
 // 17 and 26, for one preferred leader: it is there, and Active.
-#[tactic(auto, unfolding(metadata::specs::Placements::judge_leader, metadata::specs::Answers::refuse, metadata::specs::Answers::and_then), using(metadata::proofs::Lookups::node_there))]
-fn judge_leader(nodes: &Nodes, k: NodeId) -> Result<(), Answer>
-    ensures { Gives result (judge_leader (view_nodes nodes.now) k) }
+#[tactic(auto, unfolding(metadata::specs::Placements::judge_leader, metadata::specs::Answers::refuse, metadata::specs::Answers::and_then))]
+fn judge_leader(nodes: &[NodeBytes], k: NodeId) -> Result<(), Answer>
+    ensures { Gives result (judge_leader (node_rows nodes.now) k) }
 {
-    let Some(n) = nodes.get(k) else {
+    let Some(n) = stored::<Nodes>(nodes, k) else {
         return Err(Answer::UnknownNode(k));
     };
-    let lifecycle = n.lifecycle;
-    if !n.is_active() {
-        return Err(Answer::NodeNotEligible(k, lifecycle));
+    if !is_active(n) {
+        return Err(Answer::NodeNotEligible(k, lifecycle(n)));
     }
     Ok(())
 }
 
 #[tactic(auto, using(metadata::proofs::Each::each_rules))]
-pub fn judge_leaders(nodes: &Nodes, q: &PlacementPolicy) -> Result<(), Answer>
-    ensures { Gives result (each (judge_leader (view_nodes nodes.now)) (leaders q.now)) }
+pub fn judge_leaders(nodes: &[NodeBytes], q: &PlacementPolicy) -> Result<(), Answer>
+    ensures { Gives result (each (judge_leader (node_rows nodes.now)) (leaders q.now)) }
 {
     for k in q.leaders() {
         judge_leader(nodes, *k)?;
@@ -99,15 +101,15 @@ pub fn judge_leaders(nodes: &Nodes, q: &PlacementPolicy) -> Result<(), Answer>
 // The same for each replica, in turn; their nodes are handed on in the order of the replicas.
 #[tactic(auto, using(crate::proofs::Hosting::hosting))]
 pub fn judge_replicas<'a>(
-    nodes: &'a Nodes,
-    retirements: &Retirements,
+    nodes: &'a [NodeBytes],
+    retirements: &[RetirementBytes],
     old: &[DesiredReplica],
     group: RaftGroupId,
     p: &DesiredReplicaPlacement,
 ) -> Result<NodeList<'a, REPLICA_ROOM>, Answer>
-    ensures { HandsOn result (each (judge_replica (view_nodes nodes.now) (view_retirements retirements.now) old.now group p.now.placement_policy.required_storage_class) (desired p.now)) (λ on. map (λ n. n.now) on ≡ hosts (view_nodes nodes.now) (desired p.now)) }
+    ensures { HandsOn result (each (judge_replica (node_rows nodes.now) (retirement_rows retirements.now) old.now group p.now.placement_policy.required_storage_class) (desired p.now)) (λ on. map (λ n. node_row n.now) on ≡ hosts (node_rows nodes.now) (desired p.now)) }
 {
-    let mut on = NodeList::new(&nodes.rows[0]);
+    let mut on = NodeList::new(&BLANK_NODE);
     for r in p.desired() {
         let class = &p.placement_policy.required_storage_class;
         let n = judge_replica(nodes, retirements, old, group, class, r)?;

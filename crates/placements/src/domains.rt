@@ -6,6 +6,7 @@ ghost use Rattle.metadata.specs.Kinds.{label_of};
 ghost use Rattle.metadata.specs.Labels.{distinct};
 ghost use Rattle.metadata.specs.Placements.{judge_domain};
 ghost use Rattle.placements.specs.Domains.{judge_spread};
+ghost use Rattle.rows.specs.Rows.{node_row};
 ghost use Rattle.std.specs.Prelude.{◌≡◌, map};
 
 use labels::{NodeList, distinct};
@@ -14,7 +15,7 @@ use metadata::{Answer, Domain, PlacementPolicy, REPLICA_ROOM};
 // How many distinct labels the nodes have.
 // `on` are the nodes of the replicas, as `judge_replicas` found them: each check is lent them, so that no node is looked up again.
 fn observed(domain: Domain, on: &NodeList<'_, REPLICA_ROOM>) -> u32
-    ensures { result ≡ distinct (map (label_of domain) (map (λ n. n.now) on.now)) }
+    ensures { result ≡ distinct (map (label_of domain) (map (λ n. node_row n.now) on.now)) }
 {
     distinct(domain, on.used()) as u32
 }
@@ -25,7 +26,7 @@ fn judge_domain(
     required: u32,
     on: &NodeList<'_, REPLICA_ROOM>,
 ) -> Result<(), Answer>
-    ensures { Gives result (judge_domain domain required (distinct (map (label_of domain) (map (λ n. n.now) on.now)))) }
+    ensures { Gives result (judge_domain domain required (distinct (map (label_of domain) (map (λ n. node_row n.now) on.now)))) }
 {
     if required == 0 {
         return Ok(());
@@ -40,7 +41,7 @@ fn judge_domain(
 // Regions, then zones, then racks.
 #[tactic(auto, unfolding(crate::specs::Domains::judge_spread, metadata::specs::Answers::refuse, metadata::specs::Answers::and_then))]
 pub fn judge_domains(q: &PlacementPolicy, on: &NodeList<'_, REPLICA_ROOM>) -> Result<(), Answer>
-    ensures { Gives result (judge_spread (map (λ n. n.now) on.now) q.now) }
+    ensures { Gives result (judge_spread (map (λ n. node_row n.now) on.now) q.now) }
 {
     judge_domain(Domain::Region, q.min_distinct_regions, on)?;
     judge_domain(Domain::Zone, q.min_distinct_zones, on)?;

@@ -2,9 +2,9 @@
 
 // Placement: where the copies of a tablet are to stand (document 01, port item 9).
 ghost use Rattle.metadata.specs.Answers.{Gives};
-ghost use Rattle.metadata.specs.Stored.{view_nodes, view_tablets, view_placements, view_retirements};
 ghost use Rattle.metadata.specs.Placements.{judge_placement};
 ghost use Rattle.placements.specs.Stored.{stored_in, judge_new_after};
+ghost use Rattle.rows.specs.Rows.{node_rows, tablet_rows, placement_rows, retirement_rows};
 ghost use Rattle.std.specs.Option.{option_map};
 ghost use Rattle.std.specs.Prelude.{◌≡◌};
 
@@ -15,21 +15,22 @@ mod domains;
 use changes::{is_stored, judge_epoch, judge_kept_replicas, judge_room, stored_replicas};
 use copies::{judge_leaders, judge_replicas};
 use domains::judge_domains;
-use metadata::{
-    Answer, DesiredReplicaPlacement, Nodes, Placements, RaftGroupId, Retirements, TabletId, Tablets,
+use metadata::{Answer, DesiredReplicaPlacement, RaftGroupId, TabletId};
+use rows::{
+    NodeBytes, PlacementBytes, Placements, RetirementBytes, TabletBytes, Tablets, group_of,
 };
 
 // The checks of a placement that is not the stored one, from top to bottom: in its tablet's group, beside the stored one, in a table of count placements.
 #[tactic(auto, unfolding(metadata::specs::Answers::refuse, metadata::specs::Answers::and_then), using(crate::proofs::Looked::domains_at))]
 fn judge_new_placement(
-    nodes: &Nodes,
-    retirements: &Retirements,
+    nodes: &[NodeBytes],
+    retirements: &[RetirementBytes],
     group: RaftGroupId,
     stored: Option<&DesiredReplicaPlacement>,
     count: usize,
     p: &DesiredReplicaPlacement,
 ) -> Result<(), Answer>
-    ensures { Gives result (judge_new_after (view_nodes nodes.now) (view_retirements retirements.now) group (option_map (λ q. q.now) stored.entry) count p.now) }
+    ensures { Gives result (judge_new_after (node_rows nodes.now) (retirement_rows retirements.now) group (option_map (λ q. q.now) stored.entry) count p.now) }
 {
     let old = stored_replicas(stored);
     let on = judge_replicas(nodes, retirements, old, group, p)?;
@@ -41,31 +42,35 @@ fn judge_new_placement(
 }
 
 // The placement that is stored for the tablet, if any.
-fn stored_placement(placements: &Placements, tablet: TabletId) -> Option<&DesiredReplicaPlacement>
-    ensures { option_map (λ q. q.now) result ≡ stored_in tablet.0 (view_placements placements.now) }
+fn stored_placement(
+    placements: &[PlacementBytes],
+    tablet: TabletId,
+) -> Option<DesiredReplicaPlacement>
+    ensures { result ≡ stored_in tablet.0 (placement_rows placements.now) }
 {
-    placements.get(tablet)
+    tables::get::<Placements>(placements, tablet)
 }
 
 // 25 for a tablet that is not there; 1 for the placement that is stored already; else the checks of a new one. Each table is searched once, and what was found handed on.
 // It is lent the tables that it reads, one by one: so its signature says which.
-#[tactic(auto, unfolding(metadata::specs::Answers::refuse, metadata::specs::Answers::and_then), using(metadata::proofs::Lookups::tablet_there, crate::proofs::Looked::placed_at))]
+#[tactic(auto, unfolding(metadata::specs::Answers::refuse, metadata::specs::Answers::and_then), using(crate::proofs::Looked::placed_at))]
 pub fn judge_placement(
-    nodes: &Nodes,
-    tablets: &Tablets,
-    placements: &Placements,
-    retirements: &Retirements,
+    nodes: &[NodeBytes],
+    tablets: &[TabletBytes],
+    placements: &[PlacementBytes],
+    retirements: &[RetirementBytes],
     p: &DesiredReplicaPlacement,
 ) -> Result<(), Answer>
-    ensures { Gives result (judge_placement (view_nodes nodes.now) (view_tablets tablets.now) (view_placements placements.now) (view_retirements retirements.now) p.now) }
+    ensures { Gives result (judge_placement (node_rows nodes.now) (tablet_rows tablets.now) (placement_rows placements.now) (retirement_rows retirements.now) p.now) }
 {
-    let Some(t) = tablets.get(p.tablet_id) else {
+    let Some(t) = tables::stored::<Tablets>(tablets, p.tablet_id) else {
         return Err(Answer::UnknownTablet(p.tablet_id));
     };
-    let stored = stored_placement(placements, p.tablet_id);
+    let found = stored_placement(placements, p.tablet_id);
+    let stored = found.as_ref();
     if is_stored(stored, p) {
         return Err(Answer::AlreadyApplied);
     }
-    let count = placements.used().len();
-    judge_new_placement(nodes, retirements, t.raft_group_id, stored, count, p)
+    let count = placements.len();
+    judge_new_placement(nodes, retirements, group_of(t), stored, count, p)
 }

@@ -4,15 +4,15 @@ use mathlib.Core.Path.{◌≡◌, refl, sym, ap, ◌∙◌}
 use mathlib.Core.Bool.{Bool, true}
 use mathlib.Core.List.{List}
 use Prim.Native.Nat.{ℕ}
+use lib.ListN.{replicate}
+use Rattle.layout.specs.Layout.{store_of, sound, Opened}
+use Rattle.layout.specs.Places.{store_length}
+use Rattle.layout.proofs.Zero.{zero_block, zero_sound}
 use Rattle.metadata.specs.Answers.{is_applied}
-use Rattle.metadata.specs.Opening.{opening}
-use Rattle.metadata.specs.Stored.{Opened}
+use Rattle.metadata.specs.Opening.{opening, refused_rows}
 use Rattle.metadata.specs.declared.Answer.{Answer}
 use Rattle.metadata.specs.declared.Answer.TheVariants as A
-use Rattle.metadata.specs.declared.Answered.{Answered}
-use Rattle.metadata.specs.declared.Store.{Store}
 use Rattle.metadata.specs.declared.kinds.TapeFault.TheVariants as F
-use Rattle.opening.specs.Opened.{refused_opening}
 use Rattle.reading.specs.Reader.{cut_opening, tables_of, group_of, open_tape}
 
 -- an accepted opening of a tape is the opening of its tables and its group mark
@@ -21,9 +21,17 @@ unfolding open_tape
 accepted l e = grind arith
 
 -- what the code has of the opening: whether it was accepted
-pub applied : (l : List ℕ) (o : Answered) (b : Bool) → Opened (open_tape l) o.answer o.store → b ≡ is_applied o.answer → b ≡ true → is_applied (open_tape l).answer ≡ true
-applied l o b q p e = ap is_applied (sym q.answer) ∙ sym p ∙ e
+pub applied : (l : List ℕ) (a : Answer) (block : List ℕ) (b : Bool) → Opened (open_tape l) a block → b ≡ is_applied a → b ≡ true → is_applied (open_tape l).answer ≡ true
+applied l a block b q p e = ap is_applied (sym q.answer) ∙ sym p ∙ e
 
--- for `using` on `cut_opening`: the rows of a refused one, under the answer of one cut short
-pub cut : {a : Answer} {s : Store} → Opened refused_opening a s → Opened cut_opening (A.BadTape F.Cut 0) s
-cut o = record { answer = refl; rows = o.rows; sounds = o.sounds }
+-- a block of zeros is what a refused opening leaves, under its own answer
+without_rows : {b : List ℕ} (a : Answer) → b ≡ replicate store_length 0 → Opened (record { answer = a; rows = refused_rows }) a b
+without_rows a q = record { answer = refl; rows = ap store_of q ∙ zero_block; sounds = ap sound q ∙ zero_sound }
+
+-- one that is cut short
+pub cut : {b : List ℕ} → b ≡ replicate store_length 0 → Opened cut_opening (A.BadTape F.Cut 0) b
+cut q = without_rows (A.BadTape F.Cut 0) q
+
+-- one with more tables than there is room for
+pub over : {a : Answer} {b : List ℕ} → a ≡ A.InvalidCommand 10 → b ≡ replicate store_length 0 → Opened (record { answer = A.InvalidCommand 10; rows = refused_rows }) a b
+over p q = rw p (without_rows (A.InvalidCommand 10) q)

@@ -1,10 +1,8 @@
 -- The opening of a tape is that of a longer one, once so many bytes are there. Assumes nothing.
 use Prim.Native.Nat.{ℕ, ◌+◌, ◌*◌, ◌≤◌, ◌<◌}
 use native.Mathlib.Omega.{arith}
-use mathlib.Core.Path.{◌≡◌, refl, sym, ap, ap₂, ◌∙◌}
-use mathlib.Core.Bool.{true, false, cond}
+use mathlib.Core.Path.{◌≡◌, refl, ap, ◌∙◌}
 use mathlib.Core.List.{List, ◌++◌}
-use lib.Dec.{ltb}
 use lib.ListN.{length, take, drop, length-append, get_or-append}
 use lib.Seq.{take-append-le}
 use borrow.Author.Tests.{lt-ltb, le-ltb}
@@ -12,8 +10,6 @@ use Rattle.std.proofs.Common.{◌⊎◌, inl, inr}
 use Rattle.laws.specs.Bytes.{byte_at}
 use Rattle.decode.proofs.Same.{number_same, list_same, table_same}
 use Rattle.decode.specs.Decode.{list_at, table_at}
-use Rattle.metadata.specs.Answers.{is_applied}
-use Rattle.metadata.specs.Opening.{opening}
 use Rattle.metadata.specs.Rooms.{table_room}
 use Rattle.reading.specs.Places.{Opened}
 use Rattle.reading.specs.Reader.{tables_of, group_of, body_at, open_tape}

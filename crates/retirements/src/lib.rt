@@ -5,35 +5,43 @@ ghost use Rattle.std.specs.Prelude.{◌≡◌, true, false, eqb, MatchOption};
 ghost use Rattle.laws.specs.Keyed.{has};
 ghost use Rattle.laws.specs.Lists.{any};
 ghost use Rattle.metadata.specs.Answers.{Gives};
-ghost use Rattle.metadata.specs.Stored.{view_tablets, view_placements, view_retirements};
 ghost use Rattle.metadata.specs.Tables.{group_key, tablet_of_group};
 ghost use Rattle.metadata.specs.Tablets.{is_replica_retired, desires, judge_retirement};
 ghost use Rattle.retirements.specs.Steps.{judge_known_row, judge_new_row};
+ghost use Rattle.rows.specs.Rows.{tablet_rows, placement_rows, retirement_rows};
 
 use metadata::{
-    Answer, DesiredReplica, DesiredReplicaPlacement, Placements, RETIREMENT_ROOM, RaftGroupId,
-    ReplicaId, ReplicaKey, RetiredReplicaLifetime, Retirements, TableKind, TabletDescriptor,
-    TabletId, Tablets,
+    Answer, DesiredReplica, DesiredReplicaPlacement, RETIREMENT_ROOM, RaftGroupId, ReplicaId,
+    ReplicaKey, RetiredReplicaLifetime, TableKind, TabletId,
 };
+use rows::{
+    Groups, PlacementBytes, Placements, RetirementBytes, Retirements, TabletBytes, tablet_id,
+};
+use tables::{contains, get, stored};
 
-// The first tablet, by id, of the group.
+// The id of the first tablet, by id, of the group.
 // Rows rise by tablet id and not by group, so the search goes over all.
-pub fn tablet_of_group(tablets: &Tablets, group: RaftGroupId) -> Option<&TabletDescriptor>
-    ensures { MatchOption result (has group_key group.0 (view_tablets tablets.now) ≡ false) (λ t. (has group_key group.0 (view_tablets tablets.now) ≡ true) × (tablet_of_group group.0 (view_tablets tablets.now) ≡ t.now)) }
+fn tablet_of_group(tablets: &[TabletBytes], group: RaftGroupId) -> Option<TabletId>
+    ensures { MatchOption result (has group_key group.0 (tablet_rows tablets.now) ≡ false) (λ t. (has group_key group.0 (tablet_rows tablets.now) ≡ true) × ((tablet_of_group group.0 (tablet_rows tablets.now)).tablet_id ≡ t)) }
 {
-    tablets.used().iter().find(|t| t.raft_group_id == group)
+    let row = stored::<Groups>(tablets, group)?;
+    Some(tablet_id(row))
 }
 
 // The number is retired in its group, the one test for it.
 #[tactic(auto, unfolding(metadata::specs::Tablets::is_replica_retired))]
-pub fn is_replica_retired(retirements: &Retirements, group: RaftGroupId, replica: ReplicaId) -> bool
-    ensures { result ≡ is_replica_retired group.0 replica.0 (view_retirements retirements.now) }
+pub fn is_replica_retired(
+    retirements: &[RetirementBytes],
+    group: RaftGroupId,
+    replica: ReplicaId,
+) -> bool
+    ensures { result ≡ is_replica_retired group.0 replica.0 (retirement_rows retirements.now) }
 {
     let key = ReplicaKey {
         raft_group_id: group,
         replica_id: replica,
     };
-    retirements.contains(key)
+    contains::<Retirements>(retirements, key)
 }
 
 // One of the replicas has the number.
@@ -68,17 +76,17 @@ fn judge_known_retirement(
 fn judge_new_retirement(
     tablet: TabletId,
     p: &DesiredReplicaPlacement,
-    retirements: &Retirements,
+    retirements: &[RetirementBytes],
     x: &RetiredReplicaLifetime,
 ) -> Result<(), Answer>
-    ensures { Gives result (judge_new_row tablet p.now.configuration_epoch (view_retirements retirements.now) x.now) }
+    ensures { Gives result (judge_new_row tablet p.now.configuration_epoch (retirement_rows retirements.now) x.now) }
 {
     let stored = p.configuration_epoch;
     let received = x.desired_configuration_epoch;
     if received != stored {
         return Err(Answer::PlacementEpochMismatch(tablet, stored, received));
     }
-    if retirements.is_full() {
+    if RETIREMENT_ROOM <= retirements.len() {
         return Err(Answer::TableFull(TableKind::Retirements, RETIREMENT_ROOM as u64));
     }
     Ok(())
@@ -86,27 +94,27 @@ fn judge_new_retirement(
 
 // The checks of a retirement, from top to bottom; each row is looked up once.
 // It is lent the tables that it reads, one by one: so its signature says which.
-#[tactic(auto, unfolding(metadata::specs::Tablets::judge_retirement, metadata::specs::Tablets::judge_known_retirement, metadata::specs::Tablets::judge_new_retirement, metadata::specs::Tablets::is_replica_retired, metadata::specs::Tablets::desires, metadata::specs::Answers::refuse, metadata::specs::Answers::and_then), using(metadata::proofs::Lookups::placement_there, laws::proofs::KeyedLaws::row_absent))]
+#[tactic(auto, unfolding(metadata::specs::Tablets::judge_retirement, metadata::specs::Tablets::judge_known_retirement, metadata::specs::Tablets::judge_new_retirement, metadata::specs::Tablets::is_replica_retired, metadata::specs::Tablets::desires, metadata::specs::Answers::refuse, metadata::specs::Answers::and_then), using(laws::proofs::KeyedLaws::row_absent))]
 pub fn judge_retirement(
-    tablets: &Tablets,
-    placements: &Placements,
-    retirements: &Retirements,
+    tablets: &[TabletBytes],
+    placements: &[PlacementBytes],
+    retirements: &[RetirementBytes],
     x: &RetiredReplicaLifetime,
 ) -> Result<(), Answer>
-    ensures { Gives result (judge_retirement (view_tablets tablets.now) (view_placements placements.now) (view_retirements retirements.now) x.now) }
+    ensures { Gives result (judge_retirement (tablet_rows tablets.now) (placement_rows placements.now) (retirement_rows retirements.now) x.now) }
 {
     let Some(tablet) = tablet_of_group(tablets, x.raft_group_id) else {
         return Err(Answer::UnknownRaftGroup(x.raft_group_id));
     };
-    let placement = placements.get(tablet.tablet_id);
-    if placement.is_some_and(|p| desires(x.replica_id, p)) {
+    let placement = get::<Placements>(placements, tablet);
+    if placement.as_ref().is_some_and(|p| desires(x.replica_id, p)) {
         return Err(Answer::RetirementStillDesired(x.raft_group_id, x.replica_id));
     }
-    if let Some(known) = retirements.get(x.key()) {
-        return judge_known_retirement(known, x);
+    if let Some(known) = get::<Retirements>(retirements, x.key()) {
+        return judge_known_retirement(&known, x);
     }
-    let Some(p) = placement else {
-        return Err(Answer::UnknownTablet(tablet.tablet_id));
+    let Some(p) = &placement else {
+        return Err(Answer::UnknownTablet(tablet));
     };
-    judge_new_retirement(tablet.tablet_id, p, retirements, x)
+    judge_new_retirement(tablet, p, retirements, x)
 }

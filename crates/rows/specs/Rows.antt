@@ -1,14 +1,11 @@
 -- What the bytes of a row say, and the rows of each table. Assumes nothing.
 use Rattle.std.specs.Prelude.{ℕ, List, map}
 use Rattle.decode.specs.Decode.{node_at, table_at, tablet_at, placement_at, retirement_at}
-use Rattle.metadata.specs.Rooms.{tablet_room, retirement_room}
 use Rattle.metadata.specs.declared.NodeDescriptor.{NodeDescriptor}
 use Rattle.metadata.specs.declared.TableRow.{TableRow}
 use Rattle.metadata.specs.declared.TabletDescriptor.{TabletDescriptor}
 use Rattle.metadata.specs.declared.DesiredReplicaPlacement.{DesiredReplicaPlacement}
 use Rattle.metadata.specs.declared.RetiredReplicaLifetime.{RetiredReplicaLifetime}
-use Rattle.tables.specs.Rows.{rows_of}
-use Rattle.rows.specs.Widths.{tablet_width, placement_width, retirement_width}
 
 abbrev pub node_row : List ℕ → NodeDescriptor
 node_row b = node_at b 0
@@ -41,14 +38,3 @@ placement_rows = map placement_row
 
 abbrev pub retirement_rows : List (List ℕ) → List RetiredReplicaLifetime
 retirement_rows = map retirement_row
-
--- ---- the rows in use of a table in bytes
-
-abbrev pub tablets_of : List ℕ → List TabletDescriptor
-tablets_of t = tablet_rows (rows_of tablet_width tablet_room t)
-
-abbrev pub placements_of : List ℕ → List DesiredReplicaPlacement
-placements_of t = placement_rows (rows_of placement_width tablet_room t)
-
-abbrev pub retirements_of : List ℕ → List RetiredReplicaLifetime
-retirements_of t = retirement_rows (rows_of retirement_width retirement_room t)

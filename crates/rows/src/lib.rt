@@ -8,24 +8,17 @@ ghost use Rattle.std.specs.Prelude.{◌≡◌};
 mod fields;
 
 use decode::{node_at, placement_at, retirement_at, table_at, tablet_at};
-pub use fields::{group_of, is_active, label_of, lifecycle, node_id, storage_class};
+use encode::{NODE_BYTES, PLACEMENT_BYTES, RETIREMENT_BYTES, TABLE_BYTES, TABLET_BYTES};
+pub use fields::{
+    bucket, end_key, endpoints, epoch_of, group_of, in_table, is_active, is_hash, is_range,
+    label_in, lifecycle, node_id, start_key, storage_class, tablet_id,
+};
 use metadata::{
     DesiredReplicaPlacement, NodeDescriptor, NodeId, RaftGroupId, ReplicaId, ReplicaKey,
     RetiredReplicaLifetime, TableId, TableRow, TabletDescriptor, TabletId,
 };
 use numbers::number8;
 use tables::Table;
-
-// How many bytes a row has; specs/Widths.antt names them once more.
-pub const NODE_BYTES: usize = 305;
-
-pub const TABLE_BYTES: usize = 12;
-
-pub const TABLET_BYTES: usize = 107;
-
-pub const PLACEMENT_BYTES: usize = 234;
-
-pub const RETIREMENT_BYTES: usize = 48;
 
 // A row as it stands in its table.
 pub type NodeBytes = [u8; NODE_BYTES];

@@ -1,1 +1,3 @@
 -- The laws that belong to no one function. Assumes nothing.
+pub mod Padding
+pub mod Joined

@@ -1,157 +1,287 @@
-#![tactic(auto, unfolding(laws::specs::Tests::all_of))]
+#![tactic(auto, unfolding(laws::specs::Tests::all_of), using(layout::proofs::Parts::head_length))]
 
-// Reason 12: whether a store keeps to its room, its rows rise, its padding is zero and its marks are sound.
+// Reason 12: whether a block of bytes is a store that is sound: as long as a store is, its tables tidy, its rows rising, its padding zero, no id above its mark.
+// A text is judged where it stands, so that no row is read for its texts.
+ghost use Rattle.decode.specs.Decode.{text_at, optional_text_at};
+ghost use Rattle.encode.specs.Widths.{table_width, tablet_width, placement_width, retirement_width};
 ghost use Rattle.laws.specs.Lists.{every};
-ghost use Rattle.metadata.specs.Stored.{view_nodes, view_tables, view_tablets, view_placements, view_catalog, stored_directory, stored_catalog, sound};
-ghost use Rattle.metadata.specs.Sound.{sound_node, sound_tablet, sound_policy, sound_placement, replicas_below, sound_marks};
+ghost use Rattle.laws.specs.Tests.{all_of};
+ghost use Rattle.layout.specs.Layout.{directory_of, catalog_of, tables_part, tablets_part, placements_part, retirements_part, tidy_directory, tidy_catalog, sound};
+ghost use Rattle.layout.specs.Places.{directory_length, catalog_length, store_length};
+ghost use Rattle.metadata.specs.Rooms.{table_room, tablet_room, retirement_room, label_width};
+ghost use Rattle.metadata.specs.Sound.{sound_node, sound_tablet, sound_placement, replicas_below, sound_directory, sound_catalog};
 ghost use Rattle.metadata.specs.Tables.{endpoints};
-ghost use Rattle.metadata.specs.Texts.{name_fits};
-ghost use Rattle.std.specs.Prelude.{◌≡◌, leb};
+ghost use Rattle.metadata.specs.Texts.{name_fits, label_fits};
+ghost use Rattle.rows.specs.Rows.{node_row, table_rows, tablet_row, tablet_rows, placement_row, placement_rows, retirement_rows, node_rows};
+ghost use Rattle.soundness.specs.Counts.{replicas_sound, leaders_sound, numbers_sound};
+ghost use Rattle.std.specs.Prelude.{◌≡◌, ◌+◌, ◌≤◌, ◌&&◌, [], ◌∷◌, leb, length};
+ghost use Rattle.tables.specs.Rows.{tidy};
+ghost use Rattle.text.specs.Texts.{fits, optional_fits};
 
 use admission::no_host_twice;
+use encode::{NODE_BYTES, PLACEMENT_BYTES, RETIREMENT_BYTES, TABLE_BYTES, TABLET_BYTES};
+use layout::{MARKS, NODES, PLACEMENTS, RETIREMENTS, STORE_BYTES, TABLETS};
 use metadata::{
-    Catalog, DesiredReplicaPlacement, Directory, NodeDescriptor, PlacementPolicy, REPLICA_ROOM,
-    Store, TabletDescriptor,
+    DesiredReplicaPlacement, KEY_WIDTH, LABEL_WIDTH, MetadataAllocatorState, NAME_WIDTH, NODE_ROOM,
+    OptionalName, PlacementPolicy, REPLICA_ROOM, RETIREMENT_ROOM, TABLE_ROOM, TABLET_ROOM,
 };
+use numbers::number8;
+use rows::{
+    NodeBytes, Nodes, PlacementBytes, Placements, RetirementBytes, Retirements, TableBytes, Tables,
+    TabletBytes, Tablets, group_of, tablet_id,
+};
+use tables::{Table, all, is_clear, is_table, is_tidy};
+
+// ---- a text where it stands: its length within the width, zeros behind it
+
+#[tactic(auto, unfolding(text::specs::Texts::fits), using(crate::proofs::Padding::padding_there))]
+fn text_fits<const N: usize>(row: &[u8], at: usize) -> bool
+    requires { at + 1 + N ≤ length row.now }
+    ensures { result ≡ fits N (text_at {n = N} row.now at).len (text_at {n = N} row.now at).bytes }
+{
+    let len = row[at] as usize;
+    len <= N && is_clear(&row[at + 1 + len..at + 1 + N])
+}
+
+// Length 255 means absent.
+const ABSENT: u8 = 255;
+
+// Of an absent label the whole field is padding.
+#[tactic(auto, unfolding(text::specs::Texts::fits, text::specs::Texts::optional_fits))]
+fn optional_fits(row: &[u8], at: usize) -> bool
+    requires { at + 1 + label_width ≤ length row.now }
+    ensures { result ≡ optional_fits (optional_text_at {n = label_width} row.now at) }
+{
+    if row[at] == ABSENT {
+        return is_clear(&row[at + 1..at + 1 + LABEL_WIDTH]);
+    }
+    text_fits::<LABEL_WIDTH>(row, at)
+}
 
 // ---- a row: lengths and counts within the room, padding and unused places zero, no node twice in one placement
 
-fn endpoints_fit(n: &NodeDescriptor) -> bool
-    ensures { result ≡ every name_fits (endpoints n.now) }
+fn endpoints_fit(row: &NodeBytes) -> bool
+    ensures { result ≡ every name_fits (endpoints (node_row row.now)) }
 {
-    n.raft_addr.fits() && n.snapshot_addr.fits() && n.sql_addr.fits() && n.admin_addr.fits()
+    text_fits::<NAME_WIDTH>(row, 8)
+        && text_fits::<NAME_WIDTH>(row, 57)
+        && text_fits::<NAME_WIDTH>(row, 106)
+        && text_fits::<NAME_WIDTH>(row, 155)
 }
 
-#[tactic(auto, unfolding(laws::specs::Tests::all_of, metadata::specs::Sound::sound_node))]
-pub fn sound_node(n: &NodeDescriptor) -> bool
-    ensures { result ≡ sound_node n.now }
+// Region, zone, rack, class.
+fn labels_fit(row: &NodeBytes) -> bool
+    ensures { result ≡ all_of (optional_fits (node_row row.now).region ∷ optional_fits (node_row row.now).zone ∷ optional_fits (node_row row.now).rack ∷ label_fits (node_row row.now).storage_class ∷ []) }
 {
-    endpoints_fit(n) && n.region.fits() && n.zone.fits() && n.rack.fits() && n.storage_class.fits()
+    optional_fits(row, 204)
+        && optional_fits(row, 229)
+        && optional_fits(row, 254)
+        && text_fits::<LABEL_WIDTH>(row, 279)
+}
+
+pub fn sound_node(row: &NodeBytes) -> bool
+    ensures { result ≡ sound_node (node_row row.now) }
+{
+    endpoints_fit(row) && labels_fit(row)
 }
 
 #[tactic(auto, unfolding(laws::specs::Tests::all_of, metadata::specs::Sound::sound_tablet))]
-pub fn sound_tablet(t: &TabletDescriptor) -> bool
-    ensures { result ≡ sound_tablet t.now }
+pub fn sound_tablet(row: &TabletBytes) -> bool
+    ensures { result ≡ sound_tablet (tablet_row row.now) }
 {
-    t.partition.start_key.fits() && t.partition.end_key.fits()
+    text_fits::<KEY_WIDTH>(row, 41) && text_fits::<KEY_WIDTH>(row, 74)
 }
 
-#[tactic(auto, unfolding(laws::specs::Tests::all_of, metadata::specs::Sound::sound_policy))]
-pub fn sound_policy(q: &PlacementPolicy) -> bool
-    ensures { result ≡ sound_policy q.now }
+#[tactic(auto, unfolding(laws::specs::Tests::all_of, crate::specs::Counts::replicas_sound))]
+fn replicas_sound(p: &DesiredReplicaPlacement) -> bool
+    ensures { result ≡ replicas_sound p.now }
 {
-    (q.preferred_leader_count as usize) <= REPLICA_ROOM
-        && q.is_padded()
-        && q.required_storage_class.fits()
+    (p.replica_count as usize) <= REPLICA_ROOM && p.is_padded() && no_host_twice(p.desired())
 }
 
-#[tactic(auto, unfolding(laws::specs::Tests::all_of, metadata::specs::Sound::sound_placement))]
-pub fn sound_placement(p: &DesiredReplicaPlacement) -> bool
-    ensures { result ≡ sound_placement p.now }
+#[tactic(auto, unfolding(crate::specs::Counts::leaders_sound))]
+fn leaders_sound(q: &PlacementPolicy) -> bool
+    ensures { result ≡ leaders_sound q.now }
 {
-    (p.replica_count as usize) <= REPLICA_ROOM
-        && p.is_padded()
-        && no_host_twice(p.desired())
-        && sound_policy(&p.placement_policy)
+    (q.preferred_leader_count as usize) <= REPLICA_ROOM && q.is_padded()
 }
 
-// ---- the marks: no id lies above its mark
-
-// One chain each: a generic one would be told the table, the id and the mark, and be no shorter.
-fn tables_below(c: &Catalog) -> bool
-    ensures { result ≡ every (λ t. leb t.table_id.0 c.now.marks.max_table_id) (view_tables c.now.tables) }
+#[tactic(auto, unfolding(crate::specs::Counts::numbers_sound))]
+fn numbers_sound(p: &DesiredReplicaPlacement) -> bool
+    ensures { result ≡ numbers_sound p.now }
 {
-    c.tables
-        .used()
-        .iter()
-        .all(|t| t.table_id.0 <= c.marks.max_table_id)
+    replicas_sound(p) && leaders_sound(&p.placement_policy)
 }
 
-fn tablets_below(c: &Catalog) -> bool
-    ensures { result ≡ every (λ t. leb t.tablet_id.0 c.now.marks.max_tablet_id) (view_tablets c.now.tablets) }
+// The numbers of a placement are read, since all of them are asked for.
+pub fn sound_placement(row: &PlacementBytes) -> bool
+    ensures { result ≡ sound_placement (placement_row row.now) }
 {
-    c.tablets
-        .used()
-        .iter()
-        .all(|t| t.tablet_id.0 <= c.marks.max_tablet_id)
+    numbers_sound(&Placements::read(row)) && optional_fits(row, 152)
 }
 
-fn groups_below(c: &Catalog) -> bool
-    ensures { result ≡ every (λ t. leb t.raft_group_id.0 c.now.marks.max_raft_group_id) (view_tablets c.now.tablets) }
-{
-    c.tablets
-        .used()
-        .iter()
-        .all(|t| t.raft_group_id.0 <= c.marks.max_raft_group_id)
-}
-
-// The desired copies of one placement.
+// The desired copies of a placement lie no higher than the mark.
 fn replicas_below(p: &DesiredReplicaPlacement, mark: u64) -> bool
     ensures { result ≡ replicas_below mark p.now }
 {
     p.desired().iter().all(|r| r.replica_id.0 <= mark)
 }
 
-fn placements_below(c: &Catalog) -> bool
-    ensures { result ≡ every (replicas_below c.now.marks.max_replica_id) (view_placements c.now.placements) }
+fn is_below(row: &PlacementBytes, mark: u64) -> bool
+    ensures { result ≡ replicas_below mark (placement_row row.now) }
 {
-    c.placements
-        .used()
-        .iter()
-        .all(|p| replicas_below(p, c.marks.max_replica_id))
+    replicas_below(&Placements::read(row), mark)
 }
 
-#[tactic(auto, unfolding(laws::specs::Tests::all_of, metadata::specs::Sound::sound_marks))]
-pub fn sound_marks(c: &Catalog) -> bool
-    ensures { result ≡ sound_marks (view_catalog c.now) }
+// ---- the rows of a table
+
+fn nodes_sound(nodes: &[NodeBytes]) -> bool
+    ensures { result ≡ every sound_node (node_rows nodes.now) }
 {
-    tables_below(c) && tablets_below(c) && groups_below(c) && placements_below(c)
+    all::<Nodes, _>(nodes, |n| sound_node(n))
 }
 
-// ---- the store; each list of rows is one chain, as above
-
-fn nodes_sound(d: &Directory) -> bool
-    ensures { result ≡ every sound_node (view_nodes d.now.nodes) }
+fn tablets_sound(tablets: &[TabletBytes]) -> bool
+    ensures { result ≡ every sound_tablet (tablet_rows tablets.now) }
 {
-    d.nodes.used().iter().all(|n| sound_node(n))
+    all::<Tablets, _>(tablets, |t| sound_tablet(t))
 }
 
-#[tactic(auto, unfolding(laws::specs::Tests::all_of, metadata::specs::Stored::stored_directory))]
-pub fn sound_directory(d: &Directory) -> bool
-    ensures { result ≡ stored_directory d.now }
+fn placements_sound(placements: &[PlacementBytes]) -> bool
+    ensures { result ≡ every sound_placement (placement_rows placements.now) }
 {
-    d.cluster_id.fits() && d.nodes.is_sound() && nodes_sound(d)
+    all::<Placements, _>(placements, |p| sound_placement(p))
 }
 
-fn tablets_sound(c: &Catalog) -> bool
-    ensures { result ≡ every sound_tablet (view_tablets c.now.tablets) }
+// ---- the marks: no id lies above its mark
+
+// A function each: a generic one would be told where the id stands, and be no shorter.
+fn tables_below(tables: &[TableBytes], mark: u64) -> bool
+    ensures { result ≡ every (λ t. leb t.table_id.0 mark) (table_rows tables.now) }
 {
-    c.tablets.used().iter().all(|t| sound_tablet(t))
+    all::<Tables, _>(tables, |t| number8(t, 0) <= mark)
 }
 
-fn placements_sound(c: &Catalog) -> bool
-    ensures { result ≡ every sound_placement (view_placements c.now.placements) }
+fn tablets_below(tablets: &[TabletBytes], mark: u64) -> bool
+    ensures { result ≡ every (λ t. leb t.tablet_id.0 mark) (tablet_rows tablets.now) }
 {
-    c.placements.used().iter().all(|p| sound_placement(p))
+    all::<Tablets, _>(tablets, |t| tablet_id(t).0 <= mark)
 }
 
-#[tactic(auto, unfolding(laws::specs::Tests::all_of, metadata::specs::Stored::stored_catalog))]
-pub fn sound_catalog(c: &Catalog) -> bool
-    ensures { result ≡ stored_catalog c.now }
+fn groups_below(tablets: &[TabletBytes], mark: u64) -> bool
+    ensures { result ≡ every (λ t. leb t.raft_group_id.0 mark) (tablet_rows tablets.now) }
 {
-    c.tables.is_sound()
-        && c.tablets.is_sound()
-        && tablets_sound(c)
-        && c.placements.is_sound()
-        && placements_sound(c)
-        && c.retirements.is_sound()
-        && sound_marks(c)
+    all::<Tablets, _>(tablets, |t| group_of(t).0 <= mark)
 }
+
+fn placements_below(placements: &[PlacementBytes], mark: u64) -> bool
+    ensures { result ≡ every (replicas_below mark) (placement_rows placements.now) }
+{
+    all::<Placements, _>(placements, |p| is_below(p, mark))
+}
+
+// ---- the directory
+
+#[tactic(auto, unfolding(laws::specs::Tests::all_of, metadata::specs::Sound::sound_directory))]
+pub fn sound_directory(name: &OptionalName, nodes: &[NodeBytes]) -> bool
+    ensures { result ≡ sound_directory (record { name = name.now; nodes = node_rows nodes.now }) }
+{
+    name.fits() && is_table::<Nodes>(nodes, NODE_ROOM) && nodes_sound(nodes)
+}
+
+fn directory_tidy(directory: &[u8]) -> bool
+    requires { length directory.now ≡ directory_length }
+    ensures { result ≡ tidy_directory directory.now }
+{
+    is_tidy(&directory[NODES..], NODE_ROOM, NODE_BYTES)
+}
+
+fn directory_sound(directory: &[u8]) -> bool
+    requires { length directory.now ≡ directory_length }
+    ensures { result ≡ (tidy_directory directory.now && sound_directory (directory_of directory.now)) }
+{
+    directory_tidy(directory) && sound_directory(&layout::name(directory), layout::nodes(directory))
+}
+
+// ---- the catalog
+
+// The tables and the tablets.
+fn tablets_tidy(catalog: &[u8]) -> bool
+    requires { length catalog.now ≡ catalog_length }
+    ensures { result ≡ (tidy table_width table_room (tables_part catalog.now) && tidy tablet_width tablet_room (tablets_part catalog.now)) }
+{
+    is_tidy(catalog.split_at(TABLETS).0, TABLE_ROOM, TABLE_BYTES)
+        && is_tidy(&catalog[TABLETS..PLACEMENTS], TABLET_ROOM, TABLET_BYTES)
+}
+
+// The placements and the retirements.
+fn placements_tidy(catalog: &[u8]) -> bool
+    requires { length catalog.now ≡ catalog_length }
+    ensures { result ≡ (tidy placement_width tablet_room (placements_part catalog.now) && tidy retirement_width retirement_room (retirements_part catalog.now)) }
+{
+    is_tidy(
+        &catalog[PLACEMENTS..RETIREMENTS],
+        TABLET_ROOM,
+        PLACEMENT_BYTES,
+    ) && is_tidy(
+        &catalog[RETIREMENTS..MARKS],
+        RETIREMENT_ROOM,
+        RETIREMENT_BYTES,
+    )
+}
+
+fn catalog_tidy(catalog: &[u8]) -> bool
+    requires { length catalog.now ≡ catalog_length }
+    ensures { result ≡ tidy_catalog catalog.now }
+{
+    tablets_tidy(catalog) && placements_tidy(catalog)
+}
+
+#[tactic(auto, unfolding(laws::specs::Tests::all_of, metadata::specs::Sound::sound_marks, metadata::specs::Sound::sound_catalog))]
+pub fn sound_catalog(
+    tables: &[TableBytes],
+    tablets: &[TabletBytes],
+    placements: &[PlacementBytes],
+    retirements: &[RetirementBytes],
+    marks: &MetadataAllocatorState,
+) -> bool
+    ensures { result ≡ sound_catalog (record { tables = table_rows tables.now; tablets = tablet_rows tablets.now; placements = placement_rows placements.now; retirements = retirement_rows retirements.now; marks = marks.now }) }
+{
+    is_table::<Tables>(tables, TABLE_ROOM)
+        && is_table::<Tablets>(tablets, TABLET_ROOM)
+        && tablets_sound(tablets)
+        && is_table::<Placements>(placements, TABLET_ROOM)
+        && placements_sound(placements)
+        && is_table::<Retirements>(retirements, RETIREMENT_ROOM)
+        && tables_below(tables, marks.max_table_id)
+        && tablets_below(tablets, marks.max_tablet_id)
+        && groups_below(tablets, marks.max_raft_group_id)
+        && placements_below(placements, marks.max_replica_id)
+}
+
+fn catalog_sound(catalog: &[u8]) -> bool
+    requires { length catalog.now ≡ catalog_length }
+    ensures { result ≡ (tidy_catalog catalog.now && sound_catalog (catalog_of catalog.now)) }
+{
+    catalog_tidy(catalog)
+        && sound_catalog(
+            layout::tables(catalog),
+            layout::tablets(catalog),
+            layout::placements(catalog),
+            layout::retirements(catalog),
+            &layout::marks(catalog),
+        )
+}
+
+// ---- the store
 
 // Document 01: a store for which this does not hold "gets 10, reason 12, before all else".
-#[tactic(auto, unfolding(laws::specs::Tests::all_of, metadata::specs::Stored::sound))]
-pub fn sound(s: &Store) -> bool
-    ensures { result ≡ sound s.now }
+#[tactic(auto, unfolding(laws::specs::Tests::all_of, layout::specs::Layout::sound))]
+pub fn sound(block: &[u8]) -> bool
+    ensures { result ≡ sound block.now }
 {
-    sound_directory(&s.directory) && sound_catalog(&s.catalog)
+    if block.len() != STORE_BYTES {
+        return false;
+    }
+    directory_sound(layout::directory(block)) && catalog_sound(layout::catalog(block))
 }

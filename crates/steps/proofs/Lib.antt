@@ -1,2 +1,3 @@
 -- The laws that belong to no one function. Assumes nothing.
-pub mod Changing
+pub mod Stepping
+pub mod Judging

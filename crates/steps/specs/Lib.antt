@@ -1,2 +1,1 @@
--- The definitions that the contracts cite. Assumes nothing.
-pub mod Changes
+-- The definitions are those of `layout`.

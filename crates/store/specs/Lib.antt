@@ -1,1 +1,3 @@
--- The definitions are those of `metadata`.
+-- The definitions that the contracts cite. Assumes nothing.
+pub mod Slices
+pub mod Calls

@@ -1,74 +1,79 @@
 #![tactic(auto)]
 
-// The store that a user holds. Entry points have no `requires`: each tests the store first and answers 10, reason 12, where it is not sound.
-ghost use Rattle.metadata.specs.declared.Command.TheVariants.{Naming as naming, Registering as registering, Lifecycle as lifecycle, Tablet as tablet, Placement as placement, Retirement as retirement, Picking as picking};
-ghost use Rattle.metadata.specs.Stored.{Entered, Opened};
-ghost use Rattle.opening.specs.Opened.{opening_of};
+// A store that its caller lends, as bytes. No entry point has a `requires`: memory of another length, or that is no sound store, is refused, and no byte of it changes.
+ghost use Rattle.layout.specs.Layout.{Entered};
+ghost use Rattle.std.specs.Prelude.{◌≡◌};
+ghost use Rattle.store.specs.Slices.{opening_length, OpenOf, ApplyOf};
+
+mod refused;
 
 use admission::Reason;
-use metadata::{
-    Answer, Answered, Command, DesiredReplicaPlacement, Name, NodeDescriptor, NodeId,
-    RetiredReplicaLifetime, Store, TABLE_ROOM, TableRow, TabletDescriptor,
-};
+use layout::STORE_BYTES;
+use metadata::{Answer, Command, TABLE_ROOM, TapeFault};
+use reading::{HEAD, body_at, count_lines, open_tape};
+use refused::refuse_commands;
+use tape_commands::run_commands;
 
-// One command on the store where it stands: what it is answered.
-#[tactic(auto, using(crate::proofs::Entered::entering))]
-pub fn apply(s: &mut Store, c: &Command) -> Answer
-    ensures { Entered s.old c.now s.new result }
+// Why nothing was run: the list is too short for the answers, or the memory has another length than a store.
+#[derive(Clone, Copy, PartialEq, Eq, Debug)]
+pub enum Fault {
+    Short,
+    NotAStore,
+}
+
+// One command, as a record.
+pub fn enter(block: &mut [u8], c: &Command) -> Answer
+    ensures { Entered block.old c.now block.new result }
 {
-    if !soundness::sound(s) {
+    if !soundness::sound(block) {
         return Answer::from(Reason::UnsoundStore);
     }
-    steps::step(s, c)
+    steps::step(block, c)
 }
 
-// Under the source's names, each is `apply` of one command. Their result is the answer and no `Result`: of document 01's answers several are no refusals.
-pub fn apply_create_tablet(s: &mut Store, t: &TabletDescriptor) -> Answer
-    ensures { Entered s.old (tablet t.now) s.new result }
+// How many bytes an opening takes; 0 where it is cut short.
+#[tactic(auto, unfolding(crate::specs::Slices::opening_length))]
+pub fn opening_bytes(opening: &[u8]) -> usize
+    ensures { result ≡ opening_length opening.now }
 {
-    apply(s, &Command::Tablet(*t))
+    if opening.len() < HEAD {
+        return 0;
+    }
+    if TABLE_ROOM < usize::from(opening[0]) {
+        return HEAD;
+    }
+    let body = body_at(opening);
+    if opening.len() < body {
+        return 0;
+    }
+    body
 }
 
-pub fn apply_replica_retirement(s: &mut Store, x: &RetiredReplicaLifetime) -> Answer
-    ensures { Entered s.old (retirement x.now) s.new result }
+// The opening, as the tape has it. A refused one writes the store that it gives; one that is cut short writes nothing.
+pub fn open(block: &mut [u8], opening: &[u8]) -> Result<Answer, Fault>
+    ensures { OpenOf block.old opening.now result block.new }
 {
-    apply(s, &Command::Retirement(*x))
+    if block.len() != STORE_BYTES {
+        return Err(Fault::NotAStore);
+    }
+    if opening_bytes(opening) == 0 {
+        return Ok(Answer::BadTape(TapeFault::Cut, 0));
+    }
+    Ok(open_tape(opening, block))
 }
 
-pub fn select_initial_placement(s: &mut Store) -> Answer
-    ensures { Entered s.old picking s.new result }
+// The commands that stand in a slice, as the tape has them, and four numbers for each answer; how many answers there are.
+pub fn apply(block: &mut [u8], commands: &[u8], out: &mut [u64]) -> Result<usize, Fault>
+    ensures { ApplyOf block.old commands.now out.old result block.new out.new }
 {
-    apply(s, &Command::Picking)
-}
-
-pub fn apply_cluster_initialized(s: &mut Store, t: &Name) -> Answer
-    ensures { Entered s.old (naming t.now) s.new result }
-{
-    apply(s, &Command::Naming(*t))
-}
-
-pub fn apply_register_node(s: &mut Store, n: &NodeDescriptor) -> Answer
-    ensures { Entered s.old (registering n.now) s.new result }
-{
-    apply(s, &Command::Registering(*n))
-}
-
-// `to` is any byte, as in the command.
-pub fn apply_set_node_lifecycle(s: &mut Store, k: NodeId, to: u8) -> Answer
-    ensures { Entered s.old (lifecycle k to) s.new result }
-{
-    apply(s, &Command::Lifecycle(k, to))
-}
-
-pub fn apply_desired_placement(s: &mut Store, p: &DesiredReplicaPlacement) -> Answer
-    ensures { Entered s.old (placement p.now) s.new result }
-{
-    apply(s, &Command::Placement(*p))
-}
-
-// The opening: the first count rows are the tables.
-pub fn open(count: usize, rows: &[TableRow; TABLE_ROOM], group: u64) -> Answered
-    ensures { Opened (opening_of count rows.now group) result.answer result.store }
-{
-    opening::open(count, rows, group)
+    let count = count_lines(commands, 0);
+    if out.len() / 4 < count {
+        return Err(Fault::Short);
+    }
+    if soundness::sound(block) {
+        run_commands(block, commands, 0, out);
+    } else {
+        refuse_commands(commands, out);
+    }
+    Ok(count)
 }

@@ -1,8 +1,8 @@
 -- What a table is after an insertion or a replacement of a row's bytes. Assumes nothing.
 use borrow.Rule.Slice.PartMut.{put_mid}
-use Rattle.std.specs.Prelude.{◌≡◌, ℕ, ◌+◌, ◌-◌, ◌*◌, ◌^◌, ◌<◌, ◌≤◌, zero, suc, min, Bool, true, false, ◌&&◌, List, [], ◌∷◌, ◌++◌, length, take, drop, set}
+use Rattle.std.specs.Prelude.{◌≡◌, ℕ, ◌+◌, ◌-◌, ◌*◌, ◌<◌, ◌≤◌, zero, suc, min, Bool, true, false, ◌&&◌, List, [], ◌∷◌, ◌++◌, length, take, drop, set}
 use Rattle.std.specs.Simd.{first_chunks}
-use Rattle.std.proofs.Common.{refl, sym, ap, subst, ◌∙◌, arith, append_assoc, take-add, take_all, eqb-true, leb-true, eq-eqb, le-leb, add-one}
+use Rattle.std.proofs.Common.{refl, sym, ap, subst, ◌∙◌, arith, append_assoc, take-add, take_all, leb-true, eq-eqb, le-leb, add-one}
 use Rattle.std.proofs.Math.Nat.{suc-mul, mul-le-mul_right}
 use Rattle.std.proofs.Math.ListN.{drop_of_length-le}
 use Rattle.laws.proofs.Insert.{insert_at}
@@ -12,7 +12,7 @@ use Rattle.laws.specs.Lists.{every}
 use Rattle.laws.proofs.Tests.{each_of, all_of_lem}
 use Rattle.laws.proofs.ListLaws.{never}
 use Rattle.numbers.proofs.Numbers.{eight_length, eight_read}
-use Rattle.tables.specs.Rows.{count_of, rows_of, tidy, opened_for, Inserted, Replaced}
+use Rattle.tables.specs.Rows.{rows_of, tidy, opened_for, Inserted, Replaced}
 use Rattle.tables.proofs.Chunks.{chunks_length, chunks_put, behind_put, whole_length, chunks_set, behind_set, replaced_length}
 
 every_go : (t u : Bool) → (t && u) ≡ true → u ≡ true

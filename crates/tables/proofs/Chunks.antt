@@ -1,13 +1,11 @@
 -- Chunks of one width: cut, joined, one put among them, one replaced. Assumes nothing.
-use borrow.Rule.Slice.PartMut.{put_mid}
-use Rattle.std.specs.Prelude.{◌≡◌, ℕ, zero, suc, ◌+◌, ◌-◌, ◌*◌, ◌<◌, ◌≤◌, List, [], ◌∷◌, ◌++◌, length, take, drop, set}
+use Rattle.std.specs.Prelude.{◌≡◌, ℕ, zero, suc, ◌+◌, ◌-◌, ◌*◌, ◌<◌, ◌≤◌, List, ◌∷◌, ◌++◌, length, take, drop, set}
 use Rattle.std.specs.Simd.{first_chunks}
 use Rattle.std.proofs.Common.{refl, sym, ap, ap₂, ◌∙◌, arith, add-one, append_assoc}
 use Rattle.std.proofs.Math.Nat.{suc-mul, mul-le-mul_right, add-mul}
 use Rattle.std.proofs.Math.Seq.{set_at, drop-append-add}
 use Rattle.std.proofs.lemmas.List.{take-append-drop, length-take-le, length-drop, length-append, take-append-le, drop-append-le, take_at, drop_at, drop-drop, drop-take}
 use Rattle.laws.proofs.Insert.{insert_at}
-use Rattle.tables.specs.Rows.{opened_for}
 
 module _ (w : ℕ) where
   pub chunks_length : (n : ℕ) (l : List ℕ) → length (first_chunks w n l) ≡ n

@@ -1,5 +1,5 @@
 -- What rows say after an insertion or a replacement: f reads a row's bytes, the rows rise by the key of what they say. Assumes nothing.
-use Rattle.std.specs.Prelude.{◌≡◌, ℕ, ◌+◌, ◌<◌, ◌≤◌, false, List, [], ◌∷◌, ◌++◌, length, map, take, drop, set, get_or, Some}
+use Rattle.std.specs.Prelude.{◌≡◌, ℕ, false, List, ◌∷◌, ◌++◌, length, map, take, drop, set, Some}
 use Rattle.std.specs.Option.{unwrap_or}
 use Rattle.std.proofs.Common.{refl, sym, ap, ap₂, ◌∙◌, arith, take_all}
 use Rattle.std.proofs.lemmas.List.{map-append, map-set, length-map, take-map, drop-map}

@@ -1,4 +1,3 @@
 -- The laws that belong to no one function. Assumes nothing.
 pub mod Counted
-pub mod Packed
 pub mod Refused

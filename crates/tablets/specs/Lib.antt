@@ -1,1 +1,1 @@
--- The contracts cite the definitions of `metadata` alone.
+-- The contracts cite the definitions of `metadata` and of `rows` alone.

@@ -24,6 +24,6 @@ tape_history l e =
     (history (tables_of l) (group_of l) (read_from l (body_at l)).commands (subst (λ (o : Outcome). is_applied o.answer ≡ true) (sym (accepted l e)) e)))
 
 -- of every run of a tape
-pub run_history : (l : List ℕ) (room : ℕ) (r : Ran) → RunOf l room r → TapeClaims l r
-run_history l room r k opened long =
+pub run_history : (l : List ℕ) (room : ℕ) (r : Ran) (s : List ℕ) → RunOf l room r s → TapeClaims l r s
+run_history l room r s k opened long =
     rw (k.rows ∙ ap (λ (t : Bool). cond t (open_tape l).rows (final_store l)) long) (tape_history l (sym k.opened ∙ opened))

@@ -1,19 +1,19 @@
 #![tactic(auto)]
 
 // The commands of a tape behind its opening, one after the other, their answers written as numbers.
-ghost use Rattle.metadata.specs.Stored.{sound};
+ghost use Rattle.layout.specs.Layout.{sound};
 ghost use Rattle.reading.specs.Reader.{read_from, lines};
 ghost use Rattle.std.specs.Prelude.{◌≡◌, true, ◌*◌, ◌≤◌, length};
 ghost use Rattle.tape_commands.specs.Commands.{Done};
 
 use answer_numbers::write_answer;
-use metadata::{Answer, Store, TapeFault};
+use metadata::{Answer, TapeFault};
 use reading::{Next, command_at, next_at};
 use steps::step;
 
 // A walk over the tape as `reading::count_lines` has it, each command run and its answer written. Inner: `run` shows that the store is sound, and that there is room for every answer.
 #[tactic(auto, using(crate::proofs::Loop::running))]
-pub fn run_commands(store: &mut Store, tape: &[u8], from: usize, out: &mut [u64])
+pub fn run_commands(store: &mut [u8], tape: &[u8], from: usize, out: &mut [u64])
     requires { (sound store.old ≡ true) × (4 * lines (read_from tape.now from) ≤ length out.old) }
     ensures { Done tape.now store.old from out.old store.new out.new }
 {

@@ -1,4 +1,4 @@
--- The order of byte strings, and ranges of them: `overlap_iff` (document 01, port item 3), `overlap_symmetric`, `later_shared`. Assumes nothing.
+-- The order of byte strings, and ranges of them: `overlap_iff` (document 01, port item 3), `overlap_symmetric`, `later_shared`, `later_least`. Assumes nothing.
 use Prim.Native.Nat.{ℕ, ◌<◌}
 use native.Mathlib.Decide.{dec_lt}
 use native.Mathlib.Omega.{arith}
@@ -134,6 +134,14 @@ module _ (ls le rs re : List ℕ) where
       go : (t : Bool) → lex_leb rs ls ≡ t → (in_rangeb ls le (cond t ls rs) ≡ true) × (in_rangeb rs re (cond t ls rs) ≡ true)
       go true p = (own ls le hl, other rs re ls (nor_right (beforeb le rs) (beforeb re ls) h) p)
       go false p = (other ls le rs (nor_left (beforeb le rs) (beforeb re ls) h) (lex_total rs ls p), own rs re hr)
+
+  -- and no key that lies in both is below it
+  pub later_least : (k : List ℕ) → in_rangeb ls le k ≡ true → in_rangeb rs re k ≡ true → lex_leb (later_start ls rs) k ≡ true
+  later_least k p q = go (lex_leb rs ls)
+    where
+      go : (t : Bool) → lex_leb (cond t ls rs) k ≡ true
+      go true = and_left (lex_leb ls k) _ p
+      go false = and_left (lex_leb rs k) _ q
 
   -- a key in both, whatever its bytes and length
   pub meets : (k : List ℕ) → in_rangeb ls le k ≡ true → in_rangeb rs re k ≡ true → overlapb ls le rs re ≡ true

@@ -2,7 +2,7 @@
 use Rattle.std.proofs.Common.{rules}
 use Rattle.std.specs.Cmp.{IsPartialEquivalence}
 use Rattle.std.specs.Cmp.Rules.{comparing}
-use Rattle.std.specs.Prelude.{ℕ, Bool, false, not, cond, ◌&&◌, ◌||◌, List, leb, eqb, length, take, drop, replicate}
+use Rattle.std.specs.Prelude.{ℕ, Bool, false, not, cond, ◌&&◌, ◌||◌, List, leb, eqb, length, take, drop, replicate, Option, Some, None}
 use Rattle.laws.specs.Bytes.{eq_bytes, is_zero}
 use Rattle.laws.specs.Lists.{every}
 use Rattle.text.specs.declared.Optional.{Optional}
@@ -68,6 +68,14 @@ module _ {n : ℕ} where
   unfoldable pub shares_text : Optional n → Optional n → Bool
   shares_text a b = a.present && b.present && same a.text b.text
 
+  -- its bytes, where it is present
+  abbrev pub present_text : Optional n → Option (List ℕ)
+  present_text t = cond t.present (Some (text_of t.text)) None
+
+  -- present, with this text
+  abbrev pub has_text : List ℕ → Optional n → Bool
+  has_text s t = t.present && eq_bytes s (text_of t.text)
+
   -- within the width with padding zero; of an absent text the whole field is padding
   unfoldable pub optional_fits : Optional n → Bool
   optional_fits t = (t.present || eqb t.text.len 0) && fits n t.text.len t.text.bytes
@@ -75,7 +83,3 @@ module _ {n : ℕ} where
   -- a present text is admitted, an absent one zero
   unfoldable pub optional_admitted : ℕ → ℕ → ℕ → Optional n → Bool
   optional_admitted least low high t = cond t.present (text_admitted least n low high t.text.len t.text.bytes) (optional_fits t)
-
-  -- absent, and zero throughout
-  abbrev pub is_no_text : Optional n → Bool
-  is_no_text t = not t.present && is_zero_text n t.text.len t.text.bytes

@@ -1,8 +1,10 @@
 use Rattle.std.specs.Option.{option_map}
 use Rattle.std.specs.Prelude.{◌≡◌, None, drop, map}
 use Rattle.metadata.specs.Labels.{best_of}
+use Rattle.rows.specs.Rows.{node_row, node_rows}
 use Rattle.choice.proofs.best_of.Given as goal
 
 abbrev pub invariant-loop-n : goal.invariant-loop-n
 invariant-loop-n l =
-    best_of (map (λ n. n.now) l.chosen) (option_map (λ b. b.now) l.best) (drop l.n-index l.n-items) ≡ best_of (map (λ n. n.now) l.chosen) None l.n-items
+    best_of (map (λ n. node_row n.now) l.chosen) (option_map (λ b. node_row b.now) l.best) (node_rows (drop l.n-index l.nodes))
+    ≡ best_of (map (λ n. node_row n.now) l.chosen) None (node_rows l.nodes)

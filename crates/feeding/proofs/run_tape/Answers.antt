@@ -4,24 +4,24 @@ use Rattle.feeding.proofs.run_tape.Goals as goal
 
 pub returns-in-Err-print_line-clause-failed : goal.returns-in-Err-print_line-clause-failed
 returns-in-Err-print_line-clause-failed g c =
-    run_refused_failed _ _ c.at_hand.ensures.bytes _ _ (g.W.Write.contents c.args.out.now) _ c.read_opening.ensures _ c.open_tape-opening.ensures _ c.is_applied.ensures c.if-not-is_applied.true _ c.in_default.is _ _ c.print_line.ensures
+    run_refused_failed _ _ c.at_hand.ensures.bytes _ _ (g.W.Write.contents c.args.out.now) _ c.read_opening.ensures _ _ c.open_tape-answer.ensures _ c.is_applied.ensures c.if-not-is_applied.true _ c.in_default.is _ _ c.print_line.ensures _
 
 pub returns-in-Ok-clause-ran : goal.returns-in-Ok-clause-ran
 returns-in-Ok-clause-ran g c =
-    run_refused _ _ c.at_hand.ensures.bytes _ _ (g.W.Write.contents c.args.out.now) _ c.read_opening.ensures _ c.open_tape-opening.ensures _ c.is_applied.ensures c.if-not-is_applied.true _ c.in_default.is _ _ c.print_line.ensures _ c.in-Ok.is
+    run_refused _ _ c.at_hand.ensures.bytes _ _ (g.W.Write.contents c.args.out.now) _ c.read_opening.ensures _ _ c.open_tape-answer.ensures _ c.is_applied.ensures c.if-not-is_applied.true _ c.in_default.is _ _ c.print_line.ensures _ c.in-Ok.is
 
 pub returns-in-Ok-clause-whole : goal.returns-in-Ok-clause-whole
 returns-in-Ok-clause-whole g c =
-    run_refused_known _ _ c.at_hand.ensures.bytes _ _ (g.W.Write.contents c.args.out.now) _ c.read_opening.ensures _ c.open_tape-opening.ensures _ c.is_applied.ensures c.if-not-is_applied.true _ c.in_default.is _ _ c.print_line.ensures _ c.in-Ok.is
+    run_refused_known _ _ c.at_hand.ensures.bytes _ _ (g.W.Write.contents c.args.out.now) _ c.read_opening.ensures _ _ c.open_tape-answer.ensures _ c.is_applied.ensures c.if-not-is_applied.true _ c.in_default.is _ _ c.print_line.ensures _ c.in-Ok.is
 
-pub returns-in-Err-feed_all-clause-failed : goal.returns-in-Err-feed_all-clause-failed
-returns-in-Err-feed_all-clause-failed g c =
-    run_failed _ _ c.at_hand.ensures.bytes _ _ (g.W.Write.contents c.args.out.now) _ c.read_opening.ensures _ c.open_tape-opening.ensures _ c.is_applied.ensures c.if-not-is_applied.false _ c.at_hand-2.ensures.bytes _ c.body_at-at.ensures _ _ _ c.in-Err-feed_all.ensures.err
+pub returns-clause-ran : goal.returns-clause-ran
+returns-clause-ran g c =
+    run_accepted _ _ c.at_hand.ensures.bytes _ _ (g.W.Write.contents c.args.out.now) _ c.read_opening.ensures _ _ c.open_tape-answer.ensures _ c.is_applied.ensures c.if-not-is_applied.false _ c.at_hand-2.ensures.bytes _ c.body_at-at.ensures _ _ _ _ c.feed_all.ensures.ok
 
-pub returns-in-Ok-feed_all-clause-ran : goal.returns-in-Ok-feed_all-clause-ran
-returns-in-Ok-feed_all-clause-ran g c =
-    run_accepted _ _ c.at_hand.ensures.bytes _ _ (g.W.Write.contents c.args.out.now) _ c.read_opening.ensures _ c.open_tape-opening.ensures _ c.is_applied.ensures c.if-not-is_applied.false _ c.at_hand-2.ensures.bytes _ c.body_at-at.ensures _ _ _ _ c.in-Ok-feed_all.ensures.ok
+pub returns-clause-whole : goal.returns-clause-whole
+returns-clause-whole g c =
+    run_known _ _ c.at_hand.ensures.bytes _ _ (g.W.Write.contents c.args.out.now) _ c.read_opening.ensures _ _ c.open_tape-answer.ensures _ c.is_applied.ensures c.if-not-is_applied.false _ c.at_hand-2.ensures.bytes _ c.body_at-at.ensures _ _ _ _ c.feed_all.ensures.ok
 
-pub returns-in-Ok-feed_all-clause-whole : goal.returns-in-Ok-feed_all-clause-whole
-returns-in-Ok-feed_all-clause-whole g c =
-    run_known _ _ c.at_hand.ensures.bytes _ _ (g.W.Write.contents c.args.out.now) _ c.read_opening.ensures _ c.open_tape-opening.ensures _ c.is_applied.ensures c.if-not-is_applied.false _ c.at_hand-2.ensures.bytes _ c.body_at-at.ensures _ _ _ _ c.in-Ok-feed_all.ensures.ok
+pub returns-clause-failed : goal.returns-clause-failed
+returns-clause-failed g c =
+    run_failed _ _ c.at_hand.ensures.bytes _ _ (g.W.Write.contents c.args.out.now) _ c.read_opening.ensures _ _ c.open_tape-answer.ensures _ c.is_applied.ensures c.if-not-is_applied.false _ c.at_hand-2.ensures.bytes _ c.body_at-at.ensures _ _ _ _ _ c.feed_all.ensures.err

@@ -1,5 +1,5 @@
 -- What the closure says of two rows is not found by itself: `is_sorted_by` takes it as a premise.
-use Rattle.std.proofs.Common.{rules, tests, ap, ◌∙◌}
+use Rattle.std.proofs.Common.{rules, tests, ◌∙◌}
 use Rattle.std.proofs.lemmas.Fn.{always_returns_same}
 use Rattle.laws.specs.Keyed.{before, through}
 use Rattle.laws.proofs.Adjacent.{rising_is}

@@ -1,4 +1,3 @@
-use Rattle.std.proofs.Common.{arith}
 use Rattle.tables.proofs.Zeros.{tidy_within, tidy_over}
 use Rattle.tables.proofs.is_tidy.Goals as goal
 

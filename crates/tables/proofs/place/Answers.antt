@@ -1,5 +1,5 @@
 -- What the closure says of each row is not found by itself: the law takes it as a premise.
-use Rattle.std.proofs.Common.{rules, tests, ◌∙◌, ap, map, length}
+use Rattle.std.proofs.Common.{rules, tests, ◌∙◌, ap, length}
 use Rattle.std.specs.Option.{unwrap_or}
 use Rattle.laws.proofs.Found.{place_from_position}
 use Rattle.laws.proofs.Through.{find_map}

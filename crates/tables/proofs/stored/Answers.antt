@@ -1,5 +1,5 @@
 -- What the closure says of each row is not found by itself: the law takes it as a premise.
-use Rattle.std.proofs.Common.{rules, tests, ◌∙◌, ap, map, length}
+use Rattle.std.proofs.Common.{rules, tests}
 use Rattle.laws.proofs.Found.{read_from_find}
 use Rattle.tables.proofs.stored.Goals as goal
 

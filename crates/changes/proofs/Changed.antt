@@ -1,0 +1,64 @@
+-- A part after an insertion or a replacement, as the contracts of this crate say it. Assumes nothing.
+use Rattle.std.specs.Prelude.{ℕ, ◌≡◌, ◌≤◌, ◌<◌, Bool, true, false, List, length, map, take, Option, Some, None}
+use Rattle.std.specs.Option.{unwrap_or}
+use Rattle.std.proofs.Common.{sym, ap, ◌∙◌, arith, take_all}
+use Rattle.laws.specs.Keyed.{Keyed, has}
+use Rattle.laws.specs.Rows.{find_index}
+use Rattle.std.proofs.lemmas.List.{length-map}
+use Rattle.laws.proofs.Lookups.{found_none, spot}
+use Rattle.tables.specs.Rows.{under, behind, rows_of, Inserted, Replaced}
+use Rattle.tables.proofs.Put.{said_sorted, said_new, said_again, tidy_new, tidy_again, place_among, found_among}
+use Rattle.changes.specs.Changes.{Added, Put}
+
+-- u are the rows in use
+module _ {A : Type 0} (T : Keyed A) (f : List ℕ → A) (w room at : ℕ) (k : T.Key) (row t : List ℕ) (u : List (List ℕ)) (e : length row ≡ w) (s : u ≡ rows_of w room t) where
+  place_is : at ≡ unwrap_or (find_index (behind T k) (map f u)) (length u) → at ≡ unwrap_or (find_index (behind T k) (map f (rows_of w room t))) (length (rows_of w room t))
+  place_is p = p ∙ ap (λ (l : List (List ℕ)). unwrap_or (find_index (behind T k) (map f l)) (length l)) s
+
+  found_is : {o : Option ℕ} → o ≡ find_index (under T k) (map f u) → o ≡ find_index (under T k) (map f (rows_of w room t))
+  found_is p = p ∙ ap (λ (l : List (List ℕ)). find_index (under T k) (map f l)) s
+
+  -- where a row is to go, and where one was found, is among them
+  pub place_within : at ≡ unwrap_or (find_index (behind T k) (map f u)) (length u) → at ≤ length (rows_of (length row) room t)
+  place_within p = place_among T f w room at k row t e (place_is p)
+
+  pub found_within : A → Some at ≡ find_index (under T k) (map f u) → at < length (rows_of (length row) room t)
+  found_within d p = found_among T f w room at k row t e d (sym (found_is p))
+
+-- a place that was found is inside
+pub found_inside : {A : Type 0} (T : Keyed A) (f : List ℕ → A) (at : ℕ) (k : T.Key) (u : List (List ℕ)) → A → Some at ≡ find_index (under T k) (map f u) → at < length u
+found_inside {A} T f at k u d p =
+    let m : List A = map f u in
+    let a : take (length m) m ≡ m = take_all (length m) m (omega arith) in
+    let g = spot T k d d m (length m) at (rw a (sym p)) in
+    omega (arith, g.within, length-map u f)
+
+module _ {A : Type 0} (T : Keyed A) (f : List ℕ → A) (w room at : ℕ) (x : A) (fits : Bool) (row t t' : List ℕ) (u : List (List ℕ)) (e : length row ≡ w) (s : u ≡ rows_of w room t) (q : fits ≡ true → f row ≡ x) where
+  -- it was inserted at its place
+  pub added : at ≡ unwrap_or (find_index (behind T (T.key x)) (map f u)) (length u) → Inserted (length row) room at row t t' → Added T f w room x fits t t'
+  added p i =
+      record {
+        rows = λ g h. said_sorted T f w room at x row t t' e (place_is T f w room at (T.key x) row t u e s p) i (q g) h;
+        tidies = tidy_new T f w room at x row t t' e i;
+        long = i.long;
+      }
+
+  -- its key is new
+  pub put_new : None ≡ find_index (under T (T.key x)) (map f u) → at ≡ unwrap_or (find_index (behind T (T.key x)) (map f u)) (length u)
+      → Inserted (length row) room at row t t' → Put T f w room x fits t t'
+  put_new n p i =
+      let new : has T (T.key x) (map f (rows_of w room t)) ≡ false = found_none T (T.key x) (map f (rows_of w room t)) (sym (found_is T f w room at (T.key x) row t u e s n)) in
+      record {
+        rows = λ g r h. said_new T f w room at x row t t' e (place_is T f w room at (T.key x) row t u e s p) i (q g) new (h new);
+        tidies = tidy_new T f w room at x row t t' e i;
+        long = i.long;
+      }
+
+  -- its key is there
+  pub put_again : Some at ≡ find_index (under T (T.key x)) (map f u) → Replaced (length row) room at row t t' → Put T f w room x fits t t'
+  put_again p i =
+      record {
+        rows = λ g r h. said_again T f w room at x row t t' e (sym (found_is T f w room at (T.key x) row t u e s p)) i (q g) r;
+        tidies = tidy_again T f w room at x row t t' e i;
+        long = i.long;
+      }

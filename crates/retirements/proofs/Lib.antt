@@ -1,2 +1,0 @@
--- The laws that belong to no one function. Assumes nothing.
-pub mod Packed

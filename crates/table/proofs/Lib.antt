@@ -1,3 +1,0 @@
--- The laws that belong to no one function. Assumes nothing.
-pub mod Kept
-pub mod Sound
