@@ -8,7 +8,7 @@ use answer_numbers::write_answer;
 use metadata::{Answer, TapeFault};
 use reading::{Next, next_at};
 
-// A walk over the tape as `tape_commands::run_commands` has it, no command run. Inner: `apply` shows that there is room for every answer.
+// Inner: `apply` shows that there is room for every answer. A walk over the tape as `tape_commands::run_commands` has it, no command run.
 #[tactic(auto, using(crate::proofs::Refusing::refusing))]
 pub fn refuse_commands(commands: &[u8], out: &mut [u64])
     requires { 4 * lines (read_from commands.now 0) ≤ length out.old }

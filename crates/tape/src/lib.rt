@@ -62,6 +62,7 @@ fn run_whole(tape: &[u8], store: &mut [u8], out: &mut [u64]) -> Ran
     }
 }
 
+// Inner: the static library and the replays lend a block of their own, which has the length of a store.
 // The same, with demand 3: where the opening is accepted and the list is long enough, the block's rows are what the history says of the tape's commands and their answers.
 pub fn run(tape: &[u8], store: &mut [u8], out: &mut [u64]) -> Ran
     requires { length store.old ≡ store_length }
