@@ -12,10 +12,10 @@ use Rattle.tables.specs.Rows.{under, rows_of, Replaced}
 use Rattle.tables.proofs.Put.{said_again, tidy_again}
 use Rattle.encode.specs.Widths.{node_width}
 use Rattle.layout.specs.Layout.{nodes_in}
-use Rattle.metadata.specs.Nodes.{with_lifecycle, moved_nodes, registered_nodes}
+use Rattle.metadata.specs.Nodes.{moved_nodes, registered_nodes}
 use Rattle.metadata.specs.Rooms.{node_room}
 use Rattle.metadata.specs.Sound.{sound_node}
-use Rattle.metadata.specs.Tables.{node_key, node_of, blank_node}
+use Rattle.metadata.specs.Tables.{node_key, node_of, blank_node, with_lifecycle}
 use Rattle.metadata.specs.declared.NodeDescriptor.{NodeDescriptor}
 use Rattle.metadata.specs.declared.NodeId.{NodeId}
 use Rattle.rows.specs.Rows.{node_row}

@@ -4,13 +4,13 @@
 ghost use Rattle.changes.specs.Changes.{Added, Put, Moved, Registered};
 ghost use Rattle.encode.specs.Widths.{table_width, tablet_width, placement_width, retirement_width, node_width};
 ghost use Rattle.layout.specs.Places.{nodes_length, tables_length, tablets_length, placements_length, retirements_length};
-ghost use Rattle.metadata.specs.Nodes.{with_lifecycle};
 ghost use Rattle.metadata.specs.Rooms.{node_room, table_room, tablet_room, retirement_room};
 ghost use Rattle.metadata.specs.Sound.{sound_node, sound_placement};
-ghost use Rattle.metadata.specs.Tables.{node_key, table_key, tablet_key, placement_key, retirement_key};
+ghost use Rattle.metadata.specs.Tables.{node_key, table_key, tablet_key, placement_key, retirement_key, with_lifecycle};
 ghost use Rattle.rows.specs.Rows.{node_row, table_row, tablet_row, placement_row, retirement_row};
 ghost use Rattle.std.specs.Prelude.{◌≡◌, true, length};
 
+use decode::places::NODE_LIFECYCLE;
 use encode::{
     NODE_BYTES, PLACEMENT_BYTES, RETIREMENT_BYTES, TABLE_BYTES, TABLET_BYTES, node_bytes,
     placement_bytes, retirement_bytes, table_bytes, tablet_bytes,
@@ -66,15 +66,12 @@ pub fn put_placement(part: &mut [u8], p: &DesiredReplicaPlacement)
 
 // ---- the nodes
 
-// Where the lifecycle stands in a node's row.
-const LIFECYCLE: usize = 304;
-
 fn moved(row: &NodeBytes, to: u8) -> NodeBytes
     ensures row { node_row result ≡ with_lifecycle (node_row row.now) to }
     ensures long { length result ≡ node_width }
 {
     let mut next = *row;
-    next[LIFECYCLE] = to;
+    next[NODE_LIFECYCLE] = to;
     next
 }
 

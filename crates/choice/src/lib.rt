@@ -1,12 +1,14 @@
 #![tactic(auto)]
 
 // The first choice: up to three Active nodes, each time the one whose labels add most to those of the nodes chosen before it.
+ghost use Rattle.choice.specs.Gains.{Gains, node_in, best_in};
 ghost use Rattle.laws.specs.Lists.{any};
 ghost use Rattle.metadata.specs.Answers.{is_applied};
 ghost use Rattle.metadata.specs.Labels.{beats, best_of, better, candidate, choose, id_at, judge_picking, locality_gain, policy_of, select_initial_placement, step_best};
+ghost use Rattle.metadata.specs.declared.NodeDescriptor.{NodeDescriptor};
 ghost use Rattle.rows.specs.Rows.{node_row, node_rows};
 ghost use Rattle.std.specs.Option.{option_map};
-ghost use Rattle.std.specs.Prelude.{◌≡◌, ◌≤◌, [], ◌∷◌, false, None, eqb, length, map};
+ghost use Rattle.std.specs.Prelude.{◌≡◌, ◌≤◌, List, [], ◌∷◌, false, None, IfSome, eqb, length, map};
 
 use labels::{NodeList, distinct, new_label};
 use metadata::{
@@ -18,6 +20,13 @@ use text::Optional;
 
 // The nodes chosen so far, in order of choice.
 type Chosen<'a> = NodeList<'a, INITIAL_REPLICATION_FACTOR>;
+
+// A node, with what its labels add to those of the chosen nodes: that is counted once, however many nodes it is then held against.
+#[derive(Clone, Copy)]
+struct Candidate<'a> {
+    node: &'a NodeBytes,
+    gain: usize,
+}
 
 fn contains(chosen: &[&NodeBytes], id: NodeId) -> bool
     ensures { result ≡ any (λ n. eqb (node_row n.now).node_id.0 id.0) chosen.now }
@@ -35,16 +44,6 @@ fn locality_gain(chosen: &[&NodeBytes], n: &NodeBytes) -> usize
         + new_label(Domain::Rack, n, chosen)
 }
 
-// The higher gain, and the lower id on a tie.
-#[tactic(auto, unfolding(metadata::specs::Labels::better))]
-fn is_better(chosen: &[&NodeBytes], a: &NodeBytes, b: &NodeBytes) -> bool
-    ensures { result ≡ better (map (λ n. node_row n.now) chosen.now) (node_row a.now) (node_row b.now) }
-{
-    let x = locality_gain(chosen, a);
-    let y = locality_gain(chosen, b);
-    y < x || x == y && node_id(a) < node_id(b)
-}
-
 // Active, and not chosen yet.
 #[tactic(auto, unfolding(metadata::specs::Labels::candidate))]
 fn is_candidate(chosen: &[&NodeBytes], n: &NodeBytes) -> bool
@@ -53,12 +52,19 @@ fn is_candidate(chosen: &[&NodeBytes], n: &NodeBytes) -> bool
     is_active(n) && !contains(chosen, node_id(n))
 }
 
+// The higher gain, and the lower id on a tie.
+fn is_better(a: Candidate, b: Candidate) -> bool
+    ensures { (chosen : List NodeDescriptor) → Gains chosen a.entry → Gains chosen b.entry → result ≡ better chosen (node_in a.entry) (node_in b.entry) }
+{
+    b.gain < a.gain || b.gain == a.gain && node_id(a.node) < node_id(b.node)
+}
+
 // Any node is better than none.
-fn beats(chosen: &[&NodeBytes], best: Option<&NodeBytes>, n: &NodeBytes) -> bool
-    ensures { result ≡ beats (map (λ n. node_row n.now) chosen.now) (option_map (λ b. node_row b.now) best.entry) (node_row n.now) }
+fn beats(best: Option<Candidate>, n: Candidate) -> bool
+    ensures { (chosen : List NodeDescriptor) → IfSome best.entry (Gains chosen) → Gains chosen n.entry → result ≡ beats chosen (best_in best.entry) (node_in n.entry) }
 {
     match best {
-        Some(b) => is_better(chosen, n, b),
+        Some(b) => is_better(n, b),
         None => true,
     }
 }
@@ -67,20 +73,24 @@ fn beats(chosen: &[&NodeBytes], best: Option<&NodeBytes>, n: &NodeBytes) -> bool
 #[tactic(auto, unfolding(metadata::specs::Labels::step_best))]
 fn step_best<'a>(
     chosen: &[&NodeBytes],
-    best: Option<&'a NodeBytes>,
+    best: Option<Candidate<'a>>,
     n: &'a NodeBytes,
-) -> Option<&'a NodeBytes>
-    ensures { option_map (λ b. node_row b.now) result ≡ step_best (map (λ n. node_row n.now) chosen.now) (option_map (λ b. node_row b.now) best.entry) (node_row n.now) }
+) -> Option<Candidate<'a>>
+    requires { IfSome best (Gains (map (λ n. node_row n.now) chosen.now)) }
+    ensures node { best_in result ≡ step_best (map (λ n. node_row n.now) chosen.now) (best_in best.entry) (node_row n.now) }
+    ensures gain { IfSome result (Gains (map (λ n. node_row n.now) chosen.now)) }
 {
-    if is_candidate(chosen, n) && beats(chosen, best, n) {
-        Some(n)
-    } else {
-        best
+    if !is_candidate(chosen, n) {
+        return best;
     }
+    let next = Candidate {
+        node: n,
+        gain: locality_gain(chosen, n),
+    };
+    if beats(best, next) { Some(next) } else { best }
 }
 
 // The best of the nodes that are not chosen yet, if there is one.
-// A loop of the shape of `labels::distinct`: this keeps a node, that adds up numbers.
 #[tactic(auto, unfolding(metadata::specs::Labels::best_of))]
 fn best_of<'a>(chosen: &[&NodeBytes], nodes: &'a [NodeBytes]) -> Option<&'a NodeBytes>
     ensures { option_map (λ b. node_row b.now) result ≡ best_of (map (λ n. node_row n.now) chosen.now) None (node_rows nodes.now) }
@@ -89,7 +99,7 @@ fn best_of<'a>(chosen: &[&NodeBytes], nodes: &'a [NodeBytes]) -> Option<&'a Node
     for n in nodes {
         best = step_best(chosen, best, n);
     }
-    best
+    Some(best?.node)
 }
 
 // Up to three Active nodes, each time the best; it ends where no node is left.
@@ -154,7 +164,7 @@ pub fn select_initial_placement(nodes: &[NodeBytes]) -> InitialPlacement
 }
 
 // The answer of picking, which changes nothing: it is never Applied, so there is no way on for a `Result` to tell.
-#[tactic(auto, unfolding(metadata::specs::Labels::judge_picking, metadata::specs::Answers::refuse, metadata::specs::Answers::and_then))]
+#[tactic(auto, unfolding(metadata::specs::Labels::judge_picking, metadata::specs::Answers::answer_if, metadata::specs::Answers::and_then))]
 pub fn judge_picking(nodes: &[NodeBytes]) -> Answer
     ensures answer { result ≡ judge_picking (node_rows nodes.now) }
     ensures refused { is_applied result ≡ false }

@@ -1,2 +1,2 @@
 -- The laws that belong to no one function. Assumes nothing.
-pub mod Feeding
+pub mod ChunkRuns

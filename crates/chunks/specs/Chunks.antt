@@ -4,7 +4,7 @@ use Rattle.layout.specs.Layout.{store_of, sound}
 use Rattle.lines.specs.Lines.{line_text}
 use Rattle.metadata.specs.Answers.{reported}
 use Rattle.metadata.specs.declared.Command.{Command}
-use Rattle.metadata.specs.Model.{run, answers}
+use Rattle.metadata.specs.Run.{run, answers}
 use Rattle.metadata.specs.declared.Answer.{Answer}
 use Rattle.reading.specs.Places.{Stands, stop_of, is_whole, is_unknown}
 use Rattle.reading.specs.Reader.{next_at}
@@ -50,7 +50,7 @@ last_of P.Stopped x = stop_of x
 last_of P.Short x = []
 
 -- A chunk l was run on a store s, its lines put behind what stood in a text with this room; s' is the store that is left: its rows are those that the commands leave, and it is sound.
-pub record Fed (room : ℕ) (l : List ℕ) (s : List ℕ) (first : ℕ) (old : List ℕ) (c : Chunk) (s' : List ℕ) (new : List ℕ) : Type 0 where
+pub record ChunkRun (room : ℕ) (l : List ℕ) (s : List ℕ) (first : ℕ) (old : List ℕ) (c : Chunk) (s' : List ℕ) (new : List ℕ) : Type 0 where
   -- which were run: the first that stand there, and `at` is the place behind the last
   pub commands : List Command
   pub stand : Stands l 0 commands c.at

@@ -1,15 +1,15 @@
 #![tactic(auto)]
 
 // A chunk of the tape: its whole commands run, a line for each answer in a lent slice.
-ghost use Rattle.chunks.specs.Chunks.{Fed};
+ghost use Rattle.chunks.specs.Chunks.{ChunkRun};
 ghost use Rattle.layout.specs.Layout.{sound};
 ghost use Rattle.chunks.specs.declared.Pause.TheVariants.{Short};
 ghost use Rattle.std.specs.Prelude.{◌≡◌, true};
 
 use arrayvec::ArrayString;
 use lines::{LINE_ROOM, put_line};
-use metadata::{Answer, TapeFault};
-use reading::{Next, command_at, next_at};
+use metadata::{Answer, Command, TapeFault};
+use reading::{Next, next_at, read_command};
 use steps::step;
 
 // Why a run ended: the output has no room for a line, the tape stops at a byte that is no command, or no whole command is left.
@@ -41,7 +41,7 @@ fn short(at: usize, line: u64) -> Chunk
 
 // Inner: the program shows that the store is sound. Runs the whole commands of a chunk while a line has room:
 // a walk as `reading::count_lines` has it, with more ways out.
-#[tactic(auto, using(crate::proofs::Feeding::feeding))]
+#[tactic(auto, using(crate::proofs::ChunkRuns::running))]
 pub fn run_chunk<const N: usize>(
     store: &mut [u8],
     chunk: &[u8],
@@ -49,7 +49,7 @@ pub fn run_chunk<const N: usize>(
     out: &mut ArrayString<N>,
 ) -> Chunk
     requires { sound store.old ≡ true }
-    ensures { Fed N chunk.now store.old first out.old.bytes result store.new out.new.bytes }
+    ensures { ChunkRun N chunk.now store.old first out.old.bytes result store.new out.new.bytes }
 {
     let mut at = 0;
     // The line of the next answer. The loop goes over places of the chunk and no list, so `enumerate` has nothing to number.
@@ -64,7 +64,9 @@ pub fn run_chunk<const N: usize>(
         }
         match next_at(chunk, at) {
             Next::Whole(b, next) => {
-                let answer = step(store, &command_at(b, chunk, at + 1));
+                let mut command = Command::Picking;
+                read_command(b, chunk, at + 1, &mut command);
+                let answer = step(store, &command);
                 put_line(out, line, &answer.report());
                 line = line.wrapping_add(1);
                 at = next;

@@ -3,6 +3,15 @@ ghost use Rattle.decode.specs.Decode.{node_at, tablet_at, replica_at, placement_
 ghost use Rattle.metadata.specs.Rooms.{replica_room, table_room};
 ghost use Rattle.std.specs.Prelude.{◌≡◌, ◌+◌, ◌*◌, ◌≤◌, length, take};
 
+use crate::places::{
+    LEADER_WIDTH, NODE_ADMIN, NODE_CLASS, NODE_LIFECYCLE, NODE_RACK, NODE_RAFT, NODE_REGION,
+    NODE_SNAPSHOT, NODE_SQL, NODE_ZONE, PLACEMENT_CLASS, PLACEMENT_COUNT, PLACEMENT_EPOCH,
+    PLACEMENT_FACTOR, PLACEMENT_LEADER_COUNT, PLACEMENT_LEADERS, PLACEMENT_RACKS,
+    PLACEMENT_REGIONS, PLACEMENT_REPLICAS, PLACEMENT_ZONES, REPLICA_NODE, REPLICA_ROLE,
+    REPLICA_WIDTH, RETIREMENT_EPOCH, RETIREMENT_INDEX, RETIREMENT_REPLICA, RETIREMENT_TERM,
+    RETIREMENT_VERSION, TABLE_COUNT, TABLE_WIDTH, TABLET_BUCKET, TABLET_BUCKET_COUNT, TABLET_END,
+    TABLET_EPOCH, TABLET_GROUP, TABLET_KIND, TABLET_START, TABLET_TABLE,
+};
 use crate::{optional_at, text_at};
 use metadata::{
     DesiredReplica, DesiredReplicaPlacement, NodeDescriptor, NodeId, PartitionSpec,
@@ -18,15 +27,15 @@ pub fn node_at(s: &[u8], at: usize) -> NodeDescriptor
 {
     NodeDescriptor {
         node_id: NodeId(number8(s, at)),
-        raft_addr: text_at(s, at + 8),
-        snapshot_addr: text_at(s, at + 57),
-        sql_addr: text_at(s, at + 106),
-        admin_addr: text_at(s, at + 155),
-        region: optional_at(s, at + 204),
-        zone: optional_at(s, at + 229),
-        rack: optional_at(s, at + 254),
-        storage_class: text_at(s, at + 279),
-        lifecycle: s[at + 304],
+        raft_addr: text_at(s, at + NODE_RAFT),
+        snapshot_addr: text_at(s, at + NODE_SNAPSHOT),
+        sql_addr: text_at(s, at + NODE_SQL),
+        admin_addr: text_at(s, at + NODE_ADMIN),
+        region: optional_at(s, at + NODE_REGION),
+        zone: optional_at(s, at + NODE_ZONE),
+        rack: optional_at(s, at + NODE_RACK),
+        storage_class: text_at(s, at + NODE_CLASS),
+        lifecycle: s[at + NODE_LIFECYCLE],
     }
 }
 
@@ -35,11 +44,11 @@ fn partition_at(s: &[u8], at: usize) -> PartitionSpec
     ensures { result ≡ (tablet_at s.now at).partition }
 {
     PartitionSpec {
-        kind: s[at + 32],
-        bucket: number4(s, at + 33),
-        bucket_count: number4(s, at + 37),
-        start_key: text_at(s, at + 41),
-        end_key: text_at(s, at + 74),
+        kind: s[at + TABLET_KIND],
+        bucket: number4(s, at + TABLET_BUCKET),
+        bucket_count: number4(s, at + TABLET_BUCKET_COUNT),
+        start_key: text_at(s, at + TABLET_START),
+        end_key: text_at(s, at + TABLET_END),
     }
 }
 
@@ -49,9 +58,9 @@ pub fn tablet_at(s: &[u8], at: usize) -> TabletDescriptor
 {
     TabletDescriptor {
         tablet_id: TabletId(number8(s, at)),
-        table_id: TableId(number8(s, at + 8)),
-        raft_group_id: RaftGroupId(number8(s, at + 16)),
-        tablet_epoch: number8(s, at + 24),
+        table_id: TableId(number8(s, at + TABLET_TABLE)),
+        raft_group_id: RaftGroupId(number8(s, at + TABLET_GROUP)),
+        tablet_epoch: number8(s, at + TABLET_EPOCH),
         partition: partition_at(s, at),
     }
 }
@@ -62,8 +71,8 @@ pub fn replica_at(s: &[u8], at: usize) -> DesiredReplica
 {
     DesiredReplica {
         replica_id: ReplicaId(number8(s, at)),
-        node_id: NodeId(number8(s, at + 8)),
-        role: s[at + 16],
+        node_id: NodeId(number8(s, at + REPLICA_NODE)),
+        role: s[at + REPLICA_ROLE],
     }
 }
 
@@ -71,14 +80,14 @@ fn replicas_at(s: &[u8], at: usize) -> [DesiredReplica; REPLICA_ROOM]
     requires { at + 119 ≤ length s.now }
     ensures { result ≡ list_at replica_at 17 replica_room s.now at }
 {
-    array::from_fn(|i| replica_at(s, at + 17 * i))
+    array::from_fn(|i| replica_at(s, at + REPLICA_WIDTH * i))
 }
 
 fn leaders_at(s: &[u8], at: usize) -> [NodeId; REPLICA_ROOM]
     requires { at + 56 ≤ length s.now }
     ensures { result ≡ list_at node_id_at 8 replica_room s.now at }
 {
-    array::from_fn(|i| NodeId(number8(s, at + 8 * i)))
+    array::from_fn(|i| NodeId(number8(s, at + LEADER_WIDTH * i)))
 }
 
 fn policy_at(s: &[u8], at: usize) -> PlacementPolicy
@@ -86,13 +95,13 @@ fn policy_at(s: &[u8], at: usize) -> PlacementPolicy
     ensures { result ≡ (placement_at s.now at).placement_policy }
 {
     PlacementPolicy {
-        replication_factor: number4(s, at + 136),
-        min_distinct_regions: number4(s, at + 140),
-        min_distinct_zones: number4(s, at + 144),
-        min_distinct_racks: number4(s, at + 148),
-        required_storage_class: optional_at(s, at + 152),
-        preferred_leader_count: s[at + 177],
-        preferred_leader_nodes: leaders_at(s, at + 178),
+        replication_factor: number4(s, at + PLACEMENT_FACTOR),
+        min_distinct_regions: number4(s, at + PLACEMENT_REGIONS),
+        min_distinct_zones: number4(s, at + PLACEMENT_ZONES),
+        min_distinct_racks: number4(s, at + PLACEMENT_RACKS),
+        required_storage_class: optional_at(s, at + PLACEMENT_CLASS),
+        preferred_leader_count: s[at + PLACEMENT_LEADER_COUNT],
+        preferred_leader_nodes: leaders_at(s, at + PLACEMENT_LEADERS),
     }
 }
 
@@ -102,9 +111,9 @@ pub fn placement_at(s: &[u8], at: usize) -> DesiredReplicaPlacement
 {
     DesiredReplicaPlacement {
         tablet_id: TabletId(number8(s, at)),
-        configuration_epoch: number8(s, at + 8),
-        replica_count: s[at + 16],
-        replicas: replicas_at(s, at + 17),
+        configuration_epoch: number8(s, at + PLACEMENT_EPOCH),
+        replica_count: s[at + PLACEMENT_COUNT],
+        replicas: replicas_at(s, at + PLACEMENT_REPLICAS),
         placement_policy: policy_at(s, at),
     }
 }
@@ -115,11 +124,11 @@ pub fn retirement_at(s: &[u8], at: usize) -> RetiredReplicaLifetime
 {
     RetiredReplicaLifetime {
         raft_group_id: RaftGroupId(number8(s, at)),
-        replica_id: ReplicaId(number8(s, at + 8)),
-        desired_configuration_epoch: number8(s, at + 16),
-        removed_conf_state_version: number8(s, at + 24),
-        removal_index: number8(s, at + 32),
-        removal_term: number8(s, at + 40),
+        replica_id: ReplicaId(number8(s, at + RETIREMENT_REPLICA)),
+        desired_configuration_epoch: number8(s, at + RETIREMENT_EPOCH),
+        removed_conf_state_version: number8(s, at + RETIREMENT_VERSION),
+        removal_index: number8(s, at + RETIREMENT_INDEX),
+        removal_term: number8(s, at + RETIREMENT_TERM),
     }
 }
 
@@ -129,7 +138,7 @@ pub fn table_at(s: &[u8], at: usize) -> TableRow
 {
     TableRow {
         table_id: TableId(number8(s, at)),
-        tablet_count: number4(s, at + 8),
+        tablet_count: number4(s, at + TABLE_COUNT),
     }
 }
 
@@ -144,7 +153,7 @@ pub fn tables_at(s: &[u8], at: usize, count: usize) -> [TableRow; TABLE_ROOM]
     };
     let mut rows = [none; TABLE_ROOM];
     for (i, row) in rows[..count].iter_mut().enumerate() {
-        *row = table_at(s, at + 12 * i);
+        *row = table_at(s, at + TABLE_WIDTH * i);
     }
     rows
 }

@@ -1,2 +1,5 @@
 -- The laws that belong to no one function. Assumes nothing.
-pub mod Text
+pub mod Catalog
+pub mod Gathering
+pub mod Lines
+pub mod Store

@@ -99,9 +99,9 @@ module _ {w : ℕ} (l : List ℕ) (long : length l ≡ w) where
         (r.0, rw (r.1, r.2) (optional_told n 255 o.present o.text.len o.text.bytes t.0 t.1))
 
   -- of each record of a list, what is known of it by its type
-  module _ {A : Type 0} (f : List ℕ → ℕ → A) (bytes : A → List ℕ) (size : ℕ) (Held : A → Type 0) where
-    pub list_read : ((at : ℕ) (x : List ℕ) (a : A) → take (at + size) l ≡ x ++ bytes a → leb (at + size) w ≡ true → Held a → (take at l ≡ x) × (f l at ≡ a)) →
-        (n at : ℕ) (x : List ℕ) (es : List A) → take (at + size * n) l ≡ x ++ flat_map bytes es → leb (at + size * n) w ≡ true → length es ≡ n → All Held es →
+  module _ {A : Type 0} (f : List ℕ → ℕ → A) (bytes : A → List ℕ) (size : ℕ) (Typed : A → Type 0) where
+    pub list_read : ((at : ℕ) (x : List ℕ) (a : A) → take (at + size) l ≡ x ++ bytes a → leb (at + size) w ≡ true → Typed a → (take at l ≡ x) × (f l at ≡ a)) →
+        (n at : ℕ) (x : List ℕ) (es : List A) → take (at + size * n) l ≡ x ++ flat_map bytes es → leb (at + size * n) w ≡ true → length es ≡ n → All Typed es →
         (take at l ≡ x) × (list_at f size n l at ≡ es)
     list_read one zero at x [] e b k h = (ap (λ (m : ℕ). take m l) (omega arith) ∙ e ∙ append-nil x, refl)
     list_read one zero at x (a ∷ es) e b k h = absurd (omega arith)

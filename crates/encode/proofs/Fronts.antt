@@ -38,29 +38,29 @@ replica_front at old one two new r e f g =
 
 -- ---- records of one size written one behind the other: the first i of xs stand behind what stood before the place
 
-pub record Written {A : Type 0} (bytes : A → List ℕ) (Held : A → Type 0) (size at : ℕ) (old new : List ℕ) (xs : List A) (i : ℕ) : Type 0 where
+pub record Written {A : Type 0} (bytes : A → List ℕ) (Typed : A → Type 0) (size at : ℕ) (old new : List ℕ) (xs : List A) (i : ℕ) : Type 0 where
   pub front : take (at + size * i) new ≡ take at old ++ flat_map bytes (take i xs)
   pub long : length new ≡ length old
-  pub held : All Held (take i xs)
+  pub typed : All Typed (take i xs)
 
 all_more : {A : Type 0} (P : A → Type 0) (xs : List A) (i : ℕ) (d : A) → i < length xs → All P (take i xs) → P (get_or xs i d) → All P (take (suc i) xs)
 all_more P [] i d h a p = absurd (omega arith)
 all_more P (x ∷ xs) zero d h a p = (p, tt)
 all_more P (x ∷ xs) (suc i) d h a p = (a.0, all_more P xs i d (omega arith) a.1 p)
 
-module _ {A : Type 0} {bytes : A → List ℕ} {Held : A → Type 0} {size at : ℕ} {old : List ℕ} {xs : List A} where
-  pub written_start : Written bytes Held size at old old xs 0
-  written_start = record { front = ap (λ (k : ℕ). take k old) (omega arith) ∙ sym (append-nil (take at old)); long = refl; held = tt }
+module _ {A : Type 0} {bytes : A → List ℕ} {Typed : A → Type 0} {size at : ℕ} {old : List ℕ} {xs : List A} where
+  pub written_start : Written bytes Typed size at old old xs 0
+  written_start = record { front = ap (λ (k : ℕ). take k old) (omega arith) ∙ sym (append-nil (take at old)); long = refl; typed = tt }
 
-  pub written_next : {new new' : List ℕ} {i : ℕ} (d : A) → Written bytes Held size at old new xs i → i < length xs →
-      take (at + size * i + size) new' ≡ take (at + size * i) new ++ bytes (get_or xs i d) → length new' ≡ length new → Held (get_or xs i d) →
-      Written bytes Held size at old new' xs (i + 1)
+  pub written_next : {new new' : List ℕ} {i : ℕ} (d : A) → Written bytes Typed size at old new xs i → i < length xs →
+      take (at + size * i + size) new' ≡ take (at + size * i) new ++ bytes (get_or xs i d) → length new' ≡ length new → Typed (get_or xs i d) →
+      Written bytes Typed size at old new' xs (i + 1)
   written_next {new} {new'} {i} d l h e k p =
       record {
         front = ap (λ (k : ℕ). take k new') (rw (add-one, mul-suc) (omega arith)) ∙ e ∙ ap (λ (y : List ℕ). y ++ bytes (get_or xs i d)) l.front
             ∙ flat_map_more bytes (take at old) (take i xs) (get_or xs i d) ∙ ap (λ (y : List A). take at old ++ flat_map bytes y) (sym (take_more xs i d h));
         long = k ∙ l.long;
-        held = rw add-one (all_more Held xs i d h l.held p);
+        typed = rw add-one (all_more Typed xs i d h l.typed p);
       }
 
 pub ruleset written_rules = (written_start, written_next)

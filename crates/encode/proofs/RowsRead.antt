@@ -17,13 +17,13 @@ use Rattle.metadata.specs.Sound.{sound_node, sound_placement, sound_policy}
 use Rattle.laws.proofs.Tests.{each_of}
 use Rattle.decode.specs.Decode.{table_at, node_at, tablet_at, replica_at, node_id_at, placement_at, retirement_at}
 use Rattle.encode.specs.Encode.{table_bytes, node_bytes, tablet_bytes, replica_bytes, node_id_bytes, placement_bytes, retirement_bytes, marks_bytes, marks_at, name_bytes, name_row}
-use Rattle.encode.specs.Held.{HeldTable, HeldNode, HeldTablet, HeldReplica, HeldId, HeldPlacement, HeldRetirement, HeldMarks}
+use Rattle.encode.specs.Typed.{TypedTable, TypedNode, TypedTablet, TypedReplica, TypedId, TypedPlacement, TypedRetirement, TypedMarks}
 use Rattle.encode.specs.Widths.{table_width, node_width, tablet_width, placement_width, retirement_width, marks_width, name_row_width}
 use Rattle.encode.proofs.FieldsRead.{whole_front, byte_read, number4_read, number8_read, cons_read, text_read, optional_read, list_read, optional_told, length_first, fits_told}
 use Rattle.encode.proofs.Fronts.{three_pieces}
 
 module _ (l : List ℕ) where
-  pub table_read : (t : TableRow) → HeldTable t → length l ≡ table_width → l ≡ table_bytes t → table_at l 0 ≡ t
+  pub table_read : (t : TableRow) → TypedTable t → length l ≡ table_width → l ≡ table_bytes t → table_at l 0 ≡ t
   unfolding table_bytes
   table_read t k h e =
       let all = whole_front l h _ e in
@@ -31,7 +31,7 @@ module _ (l : List ℕ) where
       let r0 = number8_read l h 0 [] t.table_id.0 r1.0 refl k.table_id in
       rw (r0.1, r1.1)
 
-  pub node_read : (n : NodeDescriptor) → HeldNode n → length l ≡ node_width → l ≡ node_bytes n → sound_node n ≡ true → node_at l 0 ≡ n
+  pub node_read : (n : NodeDescriptor) → TypedNode n → length l ≡ node_width → l ≡ node_bytes n → sound_node n ≡ true → node_at l 0 ≡ n
   unfolding node_bytes sound_node
   node_read n k h e s =
       let fits = each_of _ s in
@@ -48,7 +48,7 @@ module _ (l : List ℕ) where
       let r0 = number8_read l h 0 [] n.node_id.0 r1.0 refl k.node_id in
       rw (r0.1, r1.1, r2.1, r3.1, r4.1, r5.1, r6.1, r7.1, r8.1, r9.1)
 
-  pub tablet_read : (t : TabletDescriptor) → HeldTablet t → length l ≡ tablet_width → l ≡ tablet_bytes t → tablet_at l 0 ≡ t
+  pub tablet_read : (t : TabletDescriptor) → TypedTablet t → length l ≡ tablet_width → l ≡ tablet_bytes t → tablet_at l 0 ≡ t
   unfolding tablet_bytes
   tablet_read t k h e =
       let all = whole_front l h _ e in
@@ -63,7 +63,7 @@ module _ (l : List ℕ) where
       let r0 = number8_read l h 0 [] t.tablet_id.0 r1.0 refl k.tablet_id in
       rw (r0.1, r1.1, r2.1, r3.1, r4.1, r5.1, r6.1, r7.1, r8.1)
 
-  replica_read : {w : ℕ} → length l ≡ w → (at : ℕ) (x : List ℕ) (r : DesiredReplica) → take (at + 17) l ≡ x ++ replica_bytes r → leb (at + 17) w ≡ true → HeldReplica r → (take at l ≡ x) × (replica_at l at ≡ r)
+  replica_read : {w : ℕ} → length l ≡ w → (at : ℕ) (x : List ℕ) (r : DesiredReplica) → take (at + 17) l ≡ x ++ replica_bytes r → leb (at + 17) w ≡ true → TypedReplica r → (take at l ≡ x) × (replica_at l at ≡ r)
   unfolding replica_bytes
   replica_read {w} h at x r e b k =
       let end : at + 17 ≤ w = omega (arith, leb-true (at + 17) w b) in
@@ -75,31 +75,31 @@ module _ (l : List ℕ) where
       let r0 = number8_read l h at x r.replica_id.0 r1.0 (le-leb (at + 8) w (omega arith)) k.replica_id in
       (r0.0, rw (r0.1, r1.1, r2.1))
 
-  id_read : {w : ℕ} → length l ≡ w → (at : ℕ) (x : List ℕ) (n : NodeId) → take (at + 8) l ≡ x ++ node_id_bytes n → leb (at + 8) w ≡ true → HeldId n → (take at l ≡ x) × (node_id_at l at ≡ n)
+  id_read : {w : ℕ} → length l ≡ w → (at : ℕ) (x : List ℕ) (n : NodeId) → take (at + 8) l ≡ x ++ node_id_bytes n → leb (at + 8) w ≡ true → TypedId n → (take at l ≡ x) × (node_id_at l at ≡ n)
   unfolding node_id_bytes
   id_read h at x n e b k =
       let r0 = number8_read l h at x n.0 e b k in
       (r0.0, rw r0.1)
 
-  pub placement_read : (p : DesiredReplicaPlacement) → HeldPlacement p → length l ≡ placement_width → l ≡ placement_bytes p → sound_placement p ≡ true → placement_at l 0 ≡ p
+  pub placement_read : (p : DesiredReplicaPlacement) → TypedPlacement p → length l ≡ placement_width → l ≡ placement_bytes p → sound_placement p ≡ true → placement_at l 0 ≡ p
   unfolding placement_bytes sound_placement sound_policy
   placement_read p k h e s =
       let fits = each_of _ (each_of _ s).1.1.1.0 in
       let all = whole_front l h _ e in
-      let ra = list_read l h node_id_at node_id_bytes 8 HeldId (id_read h) replica_room 178 _ p.placement_policy.preferred_leader_nodes all refl k.leader_room k.preferred_leader_nodes in
+      let ra = list_read l h node_id_at node_id_bytes 8 TypedId (id_read h) replica_room 178 _ p.placement_policy.preferred_leader_nodes all refl k.leader_room k.preferred_leader_nodes in
       let r9 = byte_read l h 177 _ p.placement_policy.preferred_leader_count ra.0 refl in
       let r8 = optional_read l h 152 _ p.placement_policy.required_storage_class r9.0 refl k.required_storage_class refl fits.1.1.0 in
       let r7 = number4_read l h 148 _ p.placement_policy.min_distinct_racks r8.0 refl k.min_distinct_racks in
       let r6 = number4_read l h 144 _ p.placement_policy.min_distinct_zones r7.0 refl k.min_distinct_zones in
       let r5 = number4_read l h 140 _ p.placement_policy.min_distinct_regions r6.0 refl k.min_distinct_regions in
       let r4 = number4_read l h 136 _ p.placement_policy.replication_factor r5.0 refl k.replication_factor in
-      let r3 = list_read l h replica_at replica_bytes 17 HeldReplica (replica_read h) replica_room 17 _ p.replicas r4.0 refl k.room k.replicas in
+      let r3 = list_read l h replica_at replica_bytes 17 TypedReplica (replica_read h) replica_room 17 _ p.replicas r4.0 refl k.room k.replicas in
       let r2 = byte_read l h 16 _ p.replica_count r3.0 refl in
       let r1 = number8_read l h 8 _ p.configuration_epoch r2.0 refl k.configuration_epoch in
       let r0 = number8_read l h 0 [] p.tablet_id.0 r1.0 refl k.tablet_id in
       rw (r0.1, r1.1, r2.1, r3.1, r4.1, r5.1, r6.1, r7.1, r8.1, r9.1, ra.1)
 
-  pub retirement_read : (r : RetiredReplicaLifetime) → HeldRetirement r → length l ≡ retirement_width → l ≡ retirement_bytes r → retirement_at l 0 ≡ r
+  pub retirement_read : (r : RetiredReplicaLifetime) → TypedRetirement r → length l ≡ retirement_width → l ≡ retirement_bytes r → retirement_at l 0 ≡ r
   unfolding retirement_bytes
   retirement_read r k h e =
       let all = whole_front l h _ e in
@@ -111,7 +111,7 @@ module _ (l : List ℕ) where
       let r0 = number8_read l h 0 [] r.raft_group_id.0 r1.0 refl k.raft_group_id in
       rw (r0.1, r1.1, r2.1, r3.1, r4.1, r5.1)
 
-  pub marks_read : (m : MetadataAllocatorState) → HeldMarks m → length l ≡ marks_width → l ≡ marks_bytes m → marks_at l ≡ m
+  pub marks_read : (m : MetadataAllocatorState) → TypedMarks m → length l ≡ marks_width → l ≡ marks_bytes m → marks_at l ≡ m
   unfolding marks_bytes
   marks_read m k h e =
       let all = whole_front l h _ e in

@@ -1,4 +1,4 @@
 -- The definitions that the contracts cite. Assumes nothing.
 pub mod Encode
-pub mod Held
+pub mod Typed
 pub mod Widths

@@ -6,7 +6,7 @@ ghost use Rattle.std.specs.List.{flat_map};
 ghost use Rattle.laws.specs.Lists.{All};
 ghost use Rattle.metadata.specs.Rooms.{name_width, replica_room};
 ghost use Rattle.encode.specs.Encode.{text_bytes, optional_bytes, name_bytes, replica_bytes, node_id_bytes};
-ghost use Rattle.encode.specs.Held.{HeldReplica, HeldId};
+ghost use Rattle.encode.specs.Typed.{TypedReplica, TypedId};
 
 use metadata::{DesiredReplica, NodeId, OptionalName, REPLICA_ROOM};
 use text::{Optional, Text};
@@ -101,7 +101,7 @@ fn put_replica(row: &mut [u8], at: usize, replica: &DesiredReplica)
     requires { at + 17 ≤ length row.old }
     ensures front { take (at + 17) row.new ≡ take at row.old ++ replica_bytes replica.now }
     ensures length { length row.new ≡ length row.old }
-    ensures held { HeldReplica replica.now }
+    ensures typed { TypedReplica replica.now }
 {
     put_number8(row, at, replica.replica_id.0);
     put_number8(row, at + 8, replica.node_id.0);
@@ -114,7 +114,7 @@ pub fn put_replicas(row: &mut [u8], at: usize, replicas: &[DesiredReplica; REPLI
     ensures front { take (at + 119) row.new ≡ take at row.old ++ flat_map replica_bytes replicas.now }
     ensures length { length row.new ≡ length row.old }
     ensures room { length replicas.now ≡ replica_room }
-    ensures held { All HeldReplica replicas.now }
+    ensures typed { All TypedReplica replicas.now }
 {
     for (i, replica) in replicas.iter().enumerate() {
         put_replica(row, at + 17 * i, replica);
@@ -127,7 +127,7 @@ pub fn put_leaders(row: &mut [u8], at: usize, nodes: &[NodeId; REPLICA_ROOM])
     ensures front { take (at + 56) row.new ≡ take at row.old ++ flat_map node_id_bytes nodes.now }
     ensures length { length row.new ≡ length row.old }
     ensures room { length nodes.now ≡ replica_room }
-    ensures held { All HeldId nodes.now }
+    ensures typed { All TypedId nodes.now }
 {
     for (i, node) in nodes.iter().enumerate() {
         put_number8(row, at + 8 * i, node.0);

@@ -13,6 +13,14 @@ use crate::{
     MARKS_BYTES, NAME_BYTES, NODE_BYTES, PLACEMENT_BYTES, RETIREMENT_BYTES, TABLE_BYTES,
     TABLET_BYTES,
 };
+use decode::places::{
+    NODE_ADMIN, NODE_CLASS, NODE_LIFECYCLE, NODE_RACK, NODE_RAFT, NODE_REGION, NODE_SNAPSHOT,
+    NODE_SQL, NODE_ZONE, PLACEMENT_CLASS, PLACEMENT_COUNT, PLACEMENT_EPOCH, PLACEMENT_FACTOR,
+    PLACEMENT_LEADER_COUNT, PLACEMENT_LEADERS, PLACEMENT_RACKS, PLACEMENT_REGIONS,
+    PLACEMENT_REPLICAS, PLACEMENT_ZONES, RETIREMENT_EPOCH, RETIREMENT_INDEX, RETIREMENT_REPLICA,
+    RETIREMENT_TERM, RETIREMENT_VERSION, TABLE_COUNT, TABLET_BUCKET, TABLET_BUCKET_COUNT,
+    TABLET_END, TABLET_EPOCH, TABLET_GROUP, TABLET_KIND, TABLET_START, TABLET_TABLE,
+};
 use decode::text_at;
 use metadata::{
     DesiredReplicaPlacement, MetadataAllocatorState, NodeDescriptor, OptionalName,
@@ -27,7 +35,7 @@ pub fn table_bytes(t: &TableRow) -> [u8; TABLE_BYTES]
 {
     let mut row = [0; TABLE_BYTES];
     put_number8(&mut row, 0, t.table_id.0);
-    put_number4(&mut row, 8, t.tablet_count);
+    put_number4(&mut row, TABLE_COUNT, t.tablet_count);
     row
 }
 
@@ -37,15 +45,15 @@ pub fn node_bytes(n: &NodeDescriptor) -> [u8; NODE_BYTES]
 {
     let mut row = [0; NODE_BYTES];
     put_number8(&mut row, 0, n.node_id.0);
-    put_text(&mut row, 8, &n.raft_addr);
-    put_text(&mut row, 57, &n.snapshot_addr);
-    put_text(&mut row, 106, &n.sql_addr);
-    put_text(&mut row, 155, &n.admin_addr);
-    put_optional(&mut row, 204, &n.region);
-    put_optional(&mut row, 229, &n.zone);
-    put_optional(&mut row, 254, &n.rack);
-    put_text(&mut row, 279, &n.storage_class);
-    put_byte(&mut row, 304, n.lifecycle);
+    put_text(&mut row, NODE_RAFT, &n.raft_addr);
+    put_text(&mut row, NODE_SNAPSHOT, &n.snapshot_addr);
+    put_text(&mut row, NODE_SQL, &n.sql_addr);
+    put_text(&mut row, NODE_ADMIN, &n.admin_addr);
+    put_optional(&mut row, NODE_REGION, &n.region);
+    put_optional(&mut row, NODE_ZONE, &n.zone);
+    put_optional(&mut row, NODE_RACK, &n.rack);
+    put_text(&mut row, NODE_CLASS, &n.storage_class);
+    put_byte(&mut row, NODE_LIFECYCLE, n.lifecycle);
     row
 }
 
@@ -55,14 +63,14 @@ pub fn tablet_bytes(t: &TabletDescriptor) -> [u8; TABLET_BYTES]
 {
     let mut row = [0; TABLET_BYTES];
     put_number8(&mut row, 0, t.tablet_id.0);
-    put_number8(&mut row, 8, t.table_id.0);
-    put_number8(&mut row, 16, t.raft_group_id.0);
-    put_number8(&mut row, 24, t.tablet_epoch);
-    put_byte(&mut row, 32, t.partition.kind);
-    put_number4(&mut row, 33, t.partition.bucket);
-    put_number4(&mut row, 37, t.partition.bucket_count);
-    put_text(&mut row, 41, &t.partition.start_key);
-    put_text(&mut row, 74, &t.partition.end_key);
+    put_number8(&mut row, TABLET_TABLE, t.table_id.0);
+    put_number8(&mut row, TABLET_GROUP, t.raft_group_id.0);
+    put_number8(&mut row, TABLET_EPOCH, t.tablet_epoch);
+    put_byte(&mut row, TABLET_KIND, t.partition.kind);
+    put_number4(&mut row, TABLET_BUCKET, t.partition.bucket);
+    put_number4(&mut row, TABLET_BUCKET_COUNT, t.partition.bucket_count);
+    put_text(&mut row, TABLET_START, &t.partition.start_key);
+    put_text(&mut row, TABLET_END, &t.partition.end_key);
     row
 }
 
@@ -73,16 +81,20 @@ pub fn placement_bytes(p: &DesiredReplicaPlacement) -> [u8; PLACEMENT_BYTES]
     let policy = &p.placement_policy;
     let mut row = [0; PLACEMENT_BYTES];
     put_number8(&mut row, 0, p.tablet_id.0);
-    put_number8(&mut row, 8, p.configuration_epoch);
-    put_byte(&mut row, 16, p.replica_count);
-    put_replicas(&mut row, 17, &p.replicas);
-    put_number4(&mut row, 136, policy.replication_factor);
-    put_number4(&mut row, 140, policy.min_distinct_regions);
-    put_number4(&mut row, 144, policy.min_distinct_zones);
-    put_number4(&mut row, 148, policy.min_distinct_racks);
-    put_optional(&mut row, 152, &policy.required_storage_class);
-    put_byte(&mut row, 177, policy.preferred_leader_count);
-    put_leaders(&mut row, 178, &policy.preferred_leader_nodes);
+    put_number8(&mut row, PLACEMENT_EPOCH, p.configuration_epoch);
+    put_byte(&mut row, PLACEMENT_COUNT, p.replica_count);
+    put_replicas(&mut row, PLACEMENT_REPLICAS, &p.replicas);
+    put_number4(&mut row, PLACEMENT_FACTOR, policy.replication_factor);
+    put_number4(&mut row, PLACEMENT_REGIONS, policy.min_distinct_regions);
+    put_number4(&mut row, PLACEMENT_ZONES, policy.min_distinct_zones);
+    put_number4(&mut row, PLACEMENT_RACKS, policy.min_distinct_racks);
+    put_optional(&mut row, PLACEMENT_CLASS, &policy.required_storage_class);
+    put_byte(
+        &mut row,
+        PLACEMENT_LEADER_COUNT,
+        policy.preferred_leader_count,
+    );
+    put_leaders(&mut row, PLACEMENT_LEADERS, &policy.preferred_leader_nodes);
     row
 }
 
@@ -92,11 +104,11 @@ pub fn retirement_bytes(r: &RetiredReplicaLifetime) -> [u8; RETIREMENT_BYTES]
 {
     let mut row = [0; RETIREMENT_BYTES];
     put_number8(&mut row, 0, r.raft_group_id.0);
-    put_number8(&mut row, 8, r.replica_id.0);
-    put_number8(&mut row, 16, r.desired_configuration_epoch);
-    put_number8(&mut row, 24, r.removed_conf_state_version);
-    put_number8(&mut row, 32, r.removal_index);
-    put_number8(&mut row, 40, r.removal_term);
+    put_number8(&mut row, RETIREMENT_REPLICA, r.replica_id.0);
+    put_number8(&mut row, RETIREMENT_EPOCH, r.desired_configuration_epoch);
+    put_number8(&mut row, RETIREMENT_VERSION, r.removed_conf_state_version);
+    put_number8(&mut row, RETIREMENT_INDEX, r.removal_index);
+    put_number8(&mut row, RETIREMENT_TERM, r.removal_term);
     row
 }
 

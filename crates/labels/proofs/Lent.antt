@@ -11,24 +11,25 @@ pub any_map : {A B : Type 0} (p : B → Bool) (f : A → B) (l : List A) → any
 any_map p f [] = refl
 any_map p f (x ∷ l) = ap (λ b. p (f x) || b) (any_map p f l)
 
-told : (p : Bool) (s t : List ℕ) → Some s ≡ cond p (Some t) None → (p ≡ true) × (s ≡ t)
-told p s t e = search rules
+present_both : (p : Bool) (s t : List ℕ) → Some s ≡ cond p (Some t) None → (p ≡ true) × (s ≡ t)
+present_both p s t e = search rules
 
-not_told : (p : Bool) (t : List ℕ) → None ≡ cond p (Some t) None → p ≡ false
-not_told p t e = search rules
+none_present : (p : Bool) (t : List ℕ) → None ≡ cond p (Some t) None → p ≡ false
+none_present p t e = search rules
 
 one_or_none : (b : Bool) → bool_byte b ≡ cond b 1 0
 one_or_none true = refl
 one_or_none false = refl
 
-module _ {A B : Type 0} (f : B → OptionalLabel) (v : A → B) (x : OptionalLabel) (l : List A) where
+-- f reads a label
+module _ {A : Type 0} (f : A → OptionalLabel) (x : OptionalLabel) (l : List A) where
   -- a present label's text is held against the labels of the others
-  pub present_adds : {s : List ℕ} {b : Bool} → Some s ≡ present_text x → b ≡ any (λ o. has_text s (f (v o))) l → bool_byte (not b) ≡ new_label x (map f (map v l))
+  pub present_adds : {s : List ℕ} {b : Bool} → Some s ≡ present_text x → b ≡ any (λ o. has_text s (f o)) l → bool_byte (not b) ≡ new_label x (map f l)
   unfolding new_label shares_text same_text
   present_adds {s} e h =
-      let t = told x.present s (text_of x.text) e in
-      rw (h, one_or_none, any_map (shares_text x) f (map v l), any_map (λ y. shares_text x (f y)) v l, t.0, t.1) refl
+      let t = present_both x.present s (text_of x.text) e in
+      rw (h, one_or_none, any_map (shares_text x) f l, t.0, t.1) refl
 
-  pub absent_adds : None ≡ present_text x → 0 ≡ new_label x (map f (map v l))
+  pub absent_adds : None ≡ present_text x → 0 ≡ new_label x (map f l)
   unfolding new_label
-  absent_adds e = rw (not_told x.present (text_of x.text) e) refl
+  absent_adds e = rw (none_present x.present (text_of x.text) e) refl

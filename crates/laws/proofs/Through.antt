@@ -3,7 +3,8 @@ use Rattle.std.specs.Prelude.{◌≡◌, ℕ, suc, Bool, true, false, cond, ◌&
 use Rattle.std.specs.List.{find}
 use Rattle.std.specs.Option.{option_map}
 use Rattle.std.proofs.Common.{refl, ap}
-use Rattle.laws.specs.Keyed.{Keyed, through, has}
+use Rattle.laws.specs.Keyed.{Keyed, has}
+use Rattle.laws.specs.Through.{through}
 use Rattle.laws.specs.Lists.{any, every, tally}
 use Rattle.laws.specs.Rows.{find_from, find_index, insert_by, rising_after, rising}
 

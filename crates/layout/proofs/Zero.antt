@@ -16,7 +16,7 @@ use Rattle.metadata.specs.Sound.{sound_rows}
 use Rattle.metadata.specs.declared.Command.{Command}
 use Rattle.metadata.specs.declared.Command.TheVariants.{Naming as naming}
 use Rattle.metadata.specs.Commands.{faults, naming_faults, lowest, needs_name}
-use Rattle.metadata.specs.Answers.{and_then, refuse}
+use Rattle.metadata.specs.Answers.{and_then, answer_if}
 use Rattle.metadata.specs.Nodes.{judge_naming}
 use Rattle.metadata.specs.Model.{StoreRows, judge, admission, decided, decide}
 use Rattle.metadata.specs.declared.Answer.{Answer}
@@ -119,14 +119,14 @@ zero_sound =
 
 -- it answers as the store of a refused opening: without a name, all but naming and picking is refused
 unnamed : (c : Command) (judged : Answer) → lowest (faults c) ≡ 0 → needs_name c ≡ true → decided no_name c judged ≡ A.NotInitialized
-unfolding decided admission and_then refuse
+unfolding decided admission and_then answer_if
 unnamed c judged h n = simp (h, n)
 
 pub zero_registers : (c : Command) → lowest (faults c) ≡ 0 → needs_name c ≡ true → decide (store_of (replicate store_length 0)) c ≡ A.NotInitialized
 zero_registers c h n = ap (λ (s : StoreRows). decide s c) zero_block ∙ unnamed c (judge refused_rows c) h n
 
 named : (t : Name) → lowest (naming_faults t) ≡ 0 → decide refused_rows (naming t) ≡ A.Applied
-unfolding decided admission and_then refuse judge_naming
+unfolding decided admission and_then answer_if judge_naming
 named t h = simp (h)
 
 -- and an admitted name is given to it

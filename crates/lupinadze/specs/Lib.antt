@@ -1,1 +1,4 @@
+pub mod Given
 pub mod Linked
+pub mod Called
+pub mod Asked

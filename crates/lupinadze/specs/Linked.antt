@@ -1,10 +1,7 @@
 -- What a caller in C or Rust gets for a whole tape in memory, beside the numbers in its list. Assumes nothing.
 use Rattle.std.specs.Prelude.{ℕ, ◌*◌, cond, List, leb, length}
+use Rattle.lupinadze.specs.Given.{short}
 use Rattle.tape.specs.Tape.{outcome}
-
--- given for a list that is too short; it is no count, since no list has room for so many answers
-abbrev pub short : ℕ
-short = 18446744073709551615
 
 -- the number of answers, or `short` where the list's room is below four numbers for each
 unfoldable pub run_result : List ℕ → ℕ → ℕ

@@ -2,8 +2,9 @@ pub mod AnswerLaws
 pub mod Guards
 pub mod AdmittedRows
 pub mod Soundness
-pub mod Retold
+pub mod Agreement
 pub mod Links
+pub mod Lowest
 pub mod Copies
 pub mod Epochs
 pub mod Unretired

@@ -11,10 +11,11 @@ use Rattle.laws.proofs.KeyedLaws.{found}
 use Rattle.metadata.specs.Answers.{is_applied}
 use Rattle.metadata.specs.Tables.{placement_key, placement_of, blank_placement}
 use Rattle.metadata.specs.Commands.{Command, opening_admitted}
-use Rattle.metadata.specs.Model.{StoreRows, Outcome, decide, apply, step, run, answers}
+use Rattle.metadata.specs.Model.{StoreRows, Outcome, decide, apply, step}
+use Rattle.metadata.specs.Run.{run, answers}
 use Rattle.metadata.specs.Sound.{sound_rows}
 use Rattle.metadata.specs.Opening.{opened_rows, opening}
-use Rattle.metadata.specs.History.{History, begun, changed, told, places, applied_placements}
+use Rattle.metadata.specs.History.{History, initial_history, after, replay, placement_count, applied_placements}
 use Rattle.metadata.specs.Claims.{Holds, Disjoint, Claims}
 use Rattle.metadata.specs.declared.Answer.{Answer}
 use Rattle.metadata.specs.declared.Answer.TheVariants as A
@@ -27,8 +28,8 @@ use Rattle.metadata.proofs.Unretired as unretired
 use Rattle.metadata.proofs.Disjoint as disjoint
 use Rattle.metadata.proofs.Epochs.{epoch_of, counts}
 use Rattle.metadata.proofs.SoundRows.{rows_true, rows_pass}
-use Rattle.metadata.proofs.Retold.{recorded, retold}
-use Rattle.metadata.proofs.Opened.{rows-sound, opened_begun}
+use Rattle.metadata.proofs.Agreement.{as_history, agrees}
+use Rattle.metadata.proofs.Opened.{rows-sound, opened_agrees}
 
 -- ---- what every reached store has: a part for each property. A new command is a clause in each part, a new property a part
 
@@ -36,23 +37,23 @@ pub record Good (s : StoreRows) : Type 0 where
   pub sound : soundness.RowsSound s
   pub links : links.Links s.catalog
   pub copies : copies.Copies s.directory.nodes s.catalog.placements
-  pub unretired : unretired.Kept s.catalog
+  pub unretired : unretired.NoneRetired s.catalog
   pub ranges : Apart Disjoint s.catalog.tablets
 
 pub good_next : (s : StoreRows) (c : Command) → Good s → is_applied (decide s c) ≡ true → Good (apply s c)
 good_next s c g e =
     record {
-      sound = soundness.kept s c g.sound e;
-      links = links.kept s c g.links e;
-      copies = copies.kept s c g.sound g.links g.copies e;
-      unretired = unretired.kept s c g.sound g.links g.unretired e;
-      ranges = disjoint.kept s c g.ranges e;
+      sound = soundness.preserved s c g.sound e;
+      links = links.preserved s c g.links e;
+      copies = copies.preserved s c g.sound g.links g.copies e;
+      unretired = unretired.preserved s c g.sound g.links g.unretired e;
+      ranges = disjoint.preserved s c g.ranges e;
     }
 
 -- ---- one step
 
 step-sound_go : (s : StoreRows) (c : Command) (t : Bool) → is_applied (decide s c) ≡ t → sound_rows s ≡ true → sound_rows (cond t (apply s c) s) ≡ true
-step-sound_go s c true e h = rows_pass (apply s c) (soundness.kept s c (rows_true s h) e)
+step-sound_go s c true e h = rows_pass (apply s c) (soundness.preserved s c (rows_true s h) e)
 step-sound_go s c false e h = h
 
 -- every step keeps soundness
@@ -64,35 +65,35 @@ pub refused : (s : StoreRows) (c : Command) → is_applied (step s c).answer ≡
 refused s c h = rw h
 
 -- rows that are good, and are the history's
-record Held (s : StoreRows) (h : History) : Type 0 where
+record Agrees (s : StoreRows) (h : History) : Type 0 where
   good : Good s
-  rows : recorded s ≡ h
+  rows : as_history s ≡ h
 
-held_go : (s : StoreRows) (h : History) (c : Command) (t : Bool) → is_applied (decide s c) ≡ t → Held s h → Held (cond t (apply s c) s) (cond t (changed h c) h)
-held_go s h c true e k = record { good = good_next s c k.good e; rows = retold s c k.good.sound e ∙ ap (λ (x : History). changed x c) k.rows }
-held_go s h c false e k = k
+agrees_go : (s : StoreRows) (h : History) (c : Command) (t : Bool) → is_applied (decide s c) ≡ t → Agrees s h → Agrees (cond t (apply s c) s) (cond t (after h c) h)
+agrees_go s h c true e k = record { good = good_next s c k.good e; rows = agrees s c k.good.sound e ∙ ap (λ (x : History). after x c) k.rows }
+agrees_go s h c false e k = k
 
-held_next : (s : StoreRows) (h : History) (c : Command) → Held s h → Held (step s c).rows (cond (is_applied (step s c).answer) (changed h c) h)
-held_next s h c k = held_go s h c (is_applied (decide s c)) refl k
+agrees_next : (s : StoreRows) (h : History) (c : Command) → Agrees s h → Agrees (step s c).rows (cond (is_applied (step s c).answer) (after h c) h)
+agrees_next s h c k = agrees_go s h c (is_applied (decide s c)) refl k
 
-epochs_go : (i : ℕ) (s : StoreRows) (c : Command) (t : Bool) → is_applied (decide s c) ≡ t → epoch_of i (cond t (apply s c) s) ≡ epoch_of i s + cond t (places i c) 0
+epochs_go : (i : ℕ) (s : StoreRows) (c : Command) (t : Bool) → is_applied (decide s c) ≡ t → epoch_of i (cond t (apply s c) s) ≡ epoch_of i s + cond t (placement_count i c) 0
 epochs_go i s c true e = counts i s c e
 epochs_go i s c false e = omega arith
 
-epochs_next : (i : ℕ) (s : StoreRows) (c : Command) → epoch_of i (step s c).rows ≡ epoch_of i s + cond (is_applied (step s c).answer) (places i c) 0
+epochs_next : (i : ℕ) (s : StoreRows) (c : Command) → epoch_of i (step s c).rows ≡ epoch_of i s + cond (is_applied (step s c).answer) (placement_count i c) 0
 epochs_next i s c = epochs_go i s c (is_applied (decide s c)) refl
 
 -- ---- every list
 
-held_run : (s : StoreRows) (h : History) (cs : List Command) → Held s h → Held (run s cs) (told h cs (answers s cs))
-held_run s h [] k = k
-held_run s h (c ∷ cs) k = held_run (step s c).rows (cond (is_applied (step s c).answer) (changed h c) h) cs (held_next s h c k)
+agrees_run : (s : StoreRows) (h : History) (cs : List Command) → Agrees s h → Agrees (run s cs) (replay h cs (answers s cs))
+agrees_run s h [] k = k
+agrees_run s h (c ∷ cs) k = agrees_run (step s c).rows (cond (is_applied (step s c).answer) (after h c) h) cs (agrees_next s h c k)
 
 epochs-run : (i : ℕ) (s : StoreRows) (cs : List Command) → epoch_of i (run s cs) ≡ epoch_of i s + applied_placements i cs (answers s cs)
 epochs-run i s [] = omega arith
 epochs-run i s (c ∷ cs) = omega (arith, epochs-run i (step s c).rows cs, epochs_next i s c)
 
-holds : (s : StoreRows) (h : History) → recorded s ≡ h → Holds s h
+holds : (s : StoreRows) (h : History) → as_history s ≡ h → Holds s h
 holds s h e =
     record {
       name = ap (λ (x : History). x.name) e;
@@ -105,13 +106,13 @@ holds s h e =
     }
 
 -- from any good rows with no placement
-claims : (s : StoreRows) (h : History) (cs : List Command) → Held s h → ((i : ℕ) → epoch_of i s ≡ 0) → Claims h cs (answers s cs) (run s cs)
-unfolding copies.Copies unretired.Kept
+claims : (s : StoreRows) (h : History) (cs : List Command) → Agrees s h → ((i : ℕ) → epoch_of i s ≡ 0) → Claims h cs (answers s cs) (run s cs)
+unfolding copies.Copies unretired.NoneRetired
 claims s h cs k z =
-    let e = held_run s h cs k in
+    let e = agrees_run s h cs k in
     let ps : List DesiredReplicaPlacement = (run s cs).catalog.placements in
     record {
-      rows = holds (run s cs) (told h cs (answers s cs)) e.rows;
+      rows = holds (run s cs) (replay h cs (answers s cs)) e.rows;
       sound = rows_pass (run s cs) e.good.sound;
       epochs =
           all_map ps
@@ -125,16 +126,16 @@ claims s h cs k z =
           (found placement_key blank_placement ps e.good.sound.catalog.placements);
       placed = e.good.links.known;
       copies = e.good.copies;
-      unretired = unretired.told_unretired (run s cs) (told h cs (answers s cs)) e.rows e.good.unretired;
+      unretired = unretired.history_unretired (run s cs) (replay h cs (answers s cs)) e.rows e.good.unretired;
       ranges = e.good.ranges;
     }
 
 opened_good : (tables : List TableRow) (group : ℕ) → opening_admitted tables ≡ true → Good (opened_rows tables group)
-unfolding copies.Copies unretired.Kept
+unfolding copies.Copies unretired.NoneRetired
 opened_good tables group e = record { sound = rows-sound tables group e; links = record { known = tt; groups = tt }; copies = tt; unretired = tt; ranges = tt }
 
-opened_held : (tables : List TableRow) (group : ℕ) → opening_admitted tables ≡ true → Held (opened_rows tables group) (begun tables group)
-opened_held tables group e = record { good = opened_good tables group e; rows = opened_begun tables group }
+opened_good_agrees : (tables : List TableRow) (group : ℕ) → opening_admitted tables ≡ true → Agrees (opened_rows tables group) (initial_history tables group)
+opened_good_agrees tables group e = record { good = opened_good tables group e; rows = opened_agrees tables group }
 
 abbrev outcome : Answer → StoreRows → Outcome
 outcome a s = record { answer = a; rows = s }
@@ -146,9 +147,9 @@ opening_go s false b e = absurd (never false e refl)
 
 -- Demand 3: from every accepted opening, with any table list and group mark, every list of commands
 pub history : (tables : List TableRow) (group : ℕ) (cs : List Command) → is_applied (opening tables group).answer ≡ true →
-    Claims (begun tables group) cs (answers (opening tables group).rows cs) (run (opening tables group).rows cs)
+    Claims (initial_history tables group) cs (answers (opening tables group).rows cs) (run (opening tables group).rows cs)
 unfolding opening copies.Copies
 history tables group cs e =
     let g = opening_go (opened_rows tables group) (opening_admitted tables) _ e in
-    subst (λ (s : StoreRows). Claims (begun tables group) cs (answers s cs) (run s cs)) g.1
-    (claims (opened_rows tables group) (begun tables group) cs (opened_held tables group g.0) (λ i. refl))
+    subst (λ (s : StoreRows). Claims (initial_history tables group) cs (answers s cs) (run s cs)) g.1
+    (claims (opened_rows tables group) (initial_history tables group) cs (opened_good_agrees tables group g.0) (λ i. refl))

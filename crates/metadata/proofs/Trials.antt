@@ -14,8 +14,8 @@ use Rattle.metadata.specs.Texts.{zero_key, no_label, Name, OptionalLabel}
 use Rattle.text.specs.Texts.{fits, text_admitted, blank, same_text, is_zero_text, all_zero}
 use Rattle.text.specs.Ranges.{lex_leb, overlapb, later_start}
 use Rattle.metadata.specs.Labels.{new_label, distinct, regions, zones, racks, locality_gain, better, candidate, step_best, best_of, choose_from, choose, judge_picking}
-use Rattle.metadata.specs.Answers.{and_then, reported, report, refuse, each}
-use Rattle.metadata.specs.Tables.{same_node_directory, same_node, same_partition, same_tablet, same_policy, same_placement}
+use Rattle.metadata.specs.Answers.{and_then, reported, report, answer_if, each}
+use Rattle.metadata.specs.Tables.{same_node_directory, same_node, same_partition, same_tablet, same_policy, same_placement, sorted, table_key}
 use Rattle.metadata.specs.Commands.{Command, naming, registering, lifecycle, tablet, placement, lowest, node_texts_admitted, partition_admitted, replicas_admitted, minima_admitted, leaders_admitted, class_blank}
 use Rattle.metadata.specs.Nodes.{
   judge_naming,
@@ -44,8 +44,9 @@ use Rattle.metadata.specs.Placements.{
   judge_new_placement,
   judge_placement,
 }
-use Rattle.metadata.specs.Model.{StoreRows, admission, decided, decide, run}
-use Rattle.metadata.specs.Opening.{sorted_tables, starting_marks, empty_rows}
+use Rattle.metadata.specs.Model.{StoreRows, admission, decided, decide}
+use Rattle.metadata.specs.Run.{run}
+use Rattle.metadata.specs.Opening.{starting_marks, empty_rows}
 use Rattle.metadata.specs.declared.Reported.{Reported}
 use Rattle.metadata.specs.declared.NodeDescriptor.{NodeDescriptor}
 use Rattle.metadata.specs.declared.TabletDescriptor.{TabletDescriptor}
@@ -127,7 +128,7 @@ retire group r epoch =
 
 -- one table, number 1, of one tablet
 abbrev pub fresh : StoreRows
-fresh = let tables : List TableRow = record { table_id = record { 0 = 1 }; tablet_count = 1 } ∷ [] in empty_rows (sorted_tables tables) (starting_marks tables 5)
+fresh = let tables : List TableRow = record { table_id = record { 0 = 1 }; tablet_count = 1 } ∷ [] in empty_rows (sorted table_key tables) (starting_marks tables 5)
 
 abbrev pub same_report : Reported → Reported → Bool
 same_report a b = eqb a.number b.number && eq_bytes a.operands b.operands
@@ -189,5 +190,5 @@ trials =
     ∷ []
 
 pub trials_right : all_right trials ≡ true
-unfolding tally none_twice all_of fits text_admitted blank same_text W.same_optional W.optional_admitted W.optional_fits is_zero_text all_zero lex_leb W.shares_text new_label distinct locality_gain better candidate step_best best_of choose_from judge_picking and_then refuse each same_node_directory same_node same_partition same_tablet same_policy same_placement lowest node_texts_admitted partition_admitted replicas_admitted minima_admitted leaders_admitted class_blank judge_naming lifecycle_can_advance still_expected judge_lifecycle clash_fields clash judge_new_node judge_known_node judge_registering moved_nodes registered_nodes judge_hash judge_range judge_new_tablet judge_tablet is_replica_retired stands_already eligible class_differs judge_replica judge_leader judge_domains judge_epoch kept_replica judge_kept_replicas judge_new_placement judge_placement admission decided sorted_tables starting_marks
+unfolding tally none_twice all_of fits text_admitted blank same_text W.same_optional W.optional_admitted W.optional_fits is_zero_text all_zero lex_leb W.shares_text new_label distinct locality_gain better candidate step_best best_of choose_from judge_picking and_then answer_if each same_node_directory same_node same_partition same_tablet same_policy same_placement lowest node_texts_admitted partition_admitted replicas_admitted minima_admitted leaders_admitted class_blank judge_naming lifecycle_can_advance still_expected judge_lifecycle clash_fields clash judge_new_node judge_known_node judge_registering moved_nodes registered_nodes judge_hash judge_range judge_new_tablet judge_tablet is_replica_retired stands_already eligible class_differs judge_replica judge_leader judge_domains judge_epoch kept_replica judge_kept_replicas judge_new_placement judge_placement admission decided sorted starting_marks
 trials_right = refl

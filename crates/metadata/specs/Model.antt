@@ -1,8 +1,8 @@
--- The model: what each command is answered, what an Applied one does, and what a list of commands does, on the tables as lists of rows. Assumes nothing.
-use Rattle.std.specs.Prelude.{ℕ, max, true, not, cond, ◌&&◌, List, [], ◌∷◌, eqb}
+-- The model: what each command is answered, and what an Applied one does, on the tables as lists of rows. Assumes nothing.
+use Rattle.std.specs.Prelude.{ℕ, max, true, not, cond, ◌&&◌, List, eqb}
 use Rattle.laws.specs.Keyed.{put}
 use Rattle.metadata.specs.Marks.{highest}
-use Rattle.metadata.specs.Answers.{is_applied, ◌⊳◌, refuse}
+use Rattle.metadata.specs.Answers.{is_applied, ◌⊳◌, answer_if}
 use Rattle.metadata.specs.Tables.{tablet_key, placement_key, retirement_key, desired}
 use Rattle.metadata.specs.Commands.{Command, naming, registering, lifecycle, tablet, placement, retirement, picking, faults, lowest, needs_name}
 use Rattle.metadata.specs.Labels.{judge_picking}
@@ -50,11 +50,11 @@ judge s picking = judge_picking s.directory.nodes
 
 -- "10 InvalidCommand (reason)"
 unfoldable pub admission : Command → Answer
-admission c = refuse (not (eqb (lowest (faults c)) 0)) (A.InvalidCommand (lowest (faults c)))
+admission c = answer_if (not (eqb (lowest (faults c)) 0)) (A.InvalidCommand (lowest (faults c)))
 
--- "all commands: 10; 11 NotInitialized, except naming and picking"; then the command's own checks, which answered so
+-- "all commands": 10; "11 NotInitialized, except naming and picking"; then the command's own checks, which answered so
 unfoldable pub decided : OptionalName → Command → Answer → Answer
-decided name c judged = admission c ⊳ refuse (needs_name c && not name.present) A.NotInitialized ⊳ judged
+decided name c judged = admission c ⊳ answer_if (needs_name c && not name.present) A.NotInitialized ⊳ judged
 
 abbrev pub decide : StoreRows → Command → Answer
 decide s c = decided s.directory.name c (judge s c)
@@ -63,47 +63,30 @@ decide s c = decided s.directory.name c (judge s c)
 
 -- "An Applied tablet raises the tablet and group marks, .. each to the largest seen"
 abbrev pub raised_by_tablet : TabletDescriptor → MetadataAllocatorState → MetadataAllocatorState
-raised_by_tablet t m =
-    record {
-      max_table_id = m.max_table_id;
-      max_tablet_id = max m.max_tablet_id t.tablet_id.0;
-      max_raft_group_id = max m.max_raft_group_id t.raft_group_id.0;
-      max_replica_id = m.max_replica_id;
-    }
+raised_by_tablet t m = record m { max_tablet_id = max m.max_tablet_id t.tablet_id.0; max_raft_group_id = max m.max_raft_group_id t.raft_group_id.0 }
 
 abbrev pub highest_replica : List DesiredReplica → ℕ → ℕ
 highest_replica = highest (λ r. r.replica_id.0)
 
 -- "an Applied placement the replica mark"
 abbrev pub raised_by_placement : DesiredReplicaPlacement → MetadataAllocatorState → MetadataAllocatorState
-raised_by_placement p m =
-    record {
-      max_table_id = m.max_table_id;
-      max_tablet_id = m.max_tablet_id;
-      max_raft_group_id = m.max_raft_group_id;
-      max_replica_id = highest_replica (desired p) m.max_replica_id;
-    }
+raised_by_placement p m = record m { max_replica_id = highest_replica (desired p) m.max_replica_id }
 
-abbrev pub with_directory : StoreRows → OptionalName → List NodeDescriptor → StoreRows
-with_directory s name nodes = record { directory = record { name = name; nodes = nodes }; catalog = s.catalog }
+abbrev pub with_directory : StoreRows → DirectoryRows → StoreRows
+with_directory s d = record s { directory = d }
 
-abbrev pub with_catalog : StoreRows → List TabletDescriptor → List DesiredReplicaPlacement → List RetiredReplicaLifetime → MetadataAllocatorState → StoreRows
-with_catalog s tablets placements retirements marks =
-    record {
-      directory = s.directory;
-      catalog = record { tables = s.catalog.tables; tablets = tablets; placements = placements; retirements = retirements; marks = marks };
-    }
+abbrev pub with_catalog : StoreRows → CatalogRows → StoreRows
+with_catalog s c = record s { catalog = c }
 
 abbrev pub apply : StoreRows → Command → StoreRows
-apply s (naming t) = with_directory s (record { present = true; text = t }) s.directory.nodes
-apply s (registering n) = with_directory s s.directory.name (registered_nodes n s.directory.nodes)
-apply s (lifecycle k to) = with_directory s s.directory.name (moved_nodes k to s.directory.nodes)
+apply s (naming t) = with_directory s (record s.directory { name = record { present = true; text = t } })
+apply s (registering n) = with_directory s (record s.directory { nodes = registered_nodes n s.directory.nodes })
+apply s (lifecycle k to) = with_directory s (record s.directory { nodes = moved_nodes k to s.directory.nodes })
 apply s (tablet t) =
-    with_catalog s (put tablet_key t s.catalog.tablets) s.catalog.placements s.catalog.retirements (raised_by_tablet t s.catalog.marks)
+    with_catalog s (record s.catalog { tablets = put tablet_key t s.catalog.tablets; marks = raised_by_tablet t s.catalog.marks })
 apply s (placement p) =
-    with_catalog s s.catalog.tablets (put placement_key p s.catalog.placements) s.catalog.retirements (raised_by_placement p s.catalog.marks)
-apply s (retirement x) =
-    with_catalog s s.catalog.tablets s.catalog.placements (put retirement_key x s.catalog.retirements) s.catalog.marks
+    with_catalog s (record s.catalog { placements = put placement_key p s.catalog.placements; marks = raised_by_placement p s.catalog.marks })
+apply s (retirement x) = with_catalog s (record s.catalog { retirements = put retirement_key x s.catalog.retirements })
 apply s picking = s
 
 -- ---- a step
@@ -116,12 +99,3 @@ pub record Outcome : Type 0 where
 -- decided, then applied where the answer is Applied, else nothing
 abbrev pub step : StoreRows → Command → Outcome
 step s c = record { answer = decide s c; rows = cond (is_applied (decide s c)) (apply s c) s }
-
--- each command is given the rows that the last one left: what they leave, and what they are answered
-abbrev pub run : StoreRows → List Command → StoreRows
-run s [] = s
-run s (c ∷ cs) = run (step s c).rows cs
-
-abbrev pub answers : StoreRows → List Command → List Answer
-answers s [] = []
-answers s (c ∷ cs) = (step s c).answer ∷ answers (step s c).rows cs

@@ -1,20 +1,13 @@
 -- The opening (document 01, "Room and admission"). Assumes nothing.
-use Rattle.std.specs.Prelude.{ℕ, cond, List, [], ◌∷◌}
-use Rattle.laws.specs.Keyed.{before}
-use Rattle.laws.specs.Rows.{insert_by}
+use Rattle.std.specs.Prelude.{ℕ, cond, List, []}
 use Rattle.metadata.specs.Texts.{no_name}
 use Rattle.metadata.specs.Marks.{initial_marks, highest}
-use Rattle.metadata.specs.Tables.{table_key}
+use Rattle.metadata.specs.Tables.{table_key, sorted}
 use Rattle.metadata.specs.Commands.{opening_admitted}
 use Rattle.metadata.specs.Model.{StoreRows, Outcome}
 use Rattle.metadata.specs.declared.Answer.TheVariants as A
 use Rattle.metadata.specs.declared.TableRow.{TableRow}
 use Rattle.metadata.specs.declared.MetadataAllocatorState.{MetadataAllocatorState}
-
--- any order is accepted; the rows of the store rise by id
-unfoldable pub sorted_tables : List TableRow → List TableRow
-sorted_tables [] = []
-sorted_tables (t ∷ l) = insert_by (before table_key) t (sorted_tables l)
 
 abbrev pub highest_table : List TableRow → ℕ → ℕ
 highest_table = highest (λ t. t.table_id.0)
@@ -23,12 +16,7 @@ highest_table = highest (λ t. t.table_id.0)
 unfoldable pub starting_marks : List TableRow → ℕ → MetadataAllocatorState
 starting_marks tables group =
     let m : MetadataAllocatorState = initial_marks group in
-    record {
-      max_table_id = highest_table tables m.max_table_id;
-      max_tablet_id = m.max_tablet_id;
-      max_raft_group_id = m.max_raft_group_id;
-      max_replica_id = m.max_replica_id;
-    }
+    record m { max_table_id = highest_table tables m.max_table_id }
 
 abbrev pub empty_rows : List TableRow → MetadataAllocatorState → StoreRows
 empty_rows tables marks =
@@ -44,8 +32,9 @@ no_marks = record { max_table_id = 0; max_tablet_id = 0; max_raft_group_id = 0; 
 abbrev pub refused_rows : StoreRows
 refused_rows = empty_rows [] no_marks
 
+-- any order of the tables is accepted
 abbrev pub opened_rows : List TableRow → ℕ → StoreRows
-opened_rows tables group = empty_rows (sorted_tables tables) (starting_marks tables group)
+opened_rows tables group = empty_rows (sorted table_key tables) (starting_marks tables group)
 
 -- "10 (the opening's only reason)"
 unfoldable pub opening : List TableRow → ℕ → Outcome

@@ -2,7 +2,8 @@
 use lib.Pointwise.{pointwise}
 use Rattle.std.specs.Prelude.{ℕ, Bool, ◌&&◌, List, [], ◌∷◌, eqb, take}
 use Rattle.laws.specs.Bytes.{is_zero}
-use Rattle.laws.specs.Keyed.{Keyed, by_number, by_pair, row}
+use Rattle.laws.specs.Keyed.{Keyed, by_number, by_pair, row, before}
+use Rattle.laws.specs.Rows.{insert_by}
 use Rattle.laws.specs.Tests.{all_of}
 use Rattle.metadata.specs.Texts.{same_name, same_label, same_key, same_optional, blank_name, blank_label, blank_key, blank_optional, Name}
 use Rattle.metadata.specs.declared.NodeId.{NodeId}
@@ -37,6 +38,11 @@ retirement_key = by_pair (λ x. (x.raft_group_id.0, x.replica_id.0))
 abbrev pub group_key : Keyed TabletDescriptor
 group_key = by_number (λ t. t.raft_group_id.0)
 
+-- "Rows rise by id": each put before the first with a higher id
+unfoldable pub sorted : {A : Type 0} → Keyed A → List A → List A
+sorted key [] = []
+sorted key (x ∷ l) = insert_by (before key) x (sorted key l)
+
 -- ---- what a row lists
 
 abbrev pub endpoints : NodeDescriptor → List Name
@@ -48,6 +54,10 @@ desired p = take p.replica_count p.replicas
 
 abbrev pub leaders : PlacementPolicy → List NodeId
 leaders q = take q.preferred_leader_count q.preferred_leader_nodes
+
+-- the same node with another lifecycle
+abbrev pub with_lifecycle : NodeDescriptor → ℕ → NodeDescriptor
+with_lifecycle n to = record n { lifecycle = to }
 
 -- ---- the same record, field by field; texts as byte strings, lists in order
 

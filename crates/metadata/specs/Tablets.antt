@@ -2,10 +2,11 @@
 use Rattle.std.specs.Prelude.{ℕ, Bool, not, cond, ◌&&◌, List, leb, eqb, length}
 use Rattle.laws.specs.Keyed.{has, row}
 use Rattle.laws.specs.Lists.{any, tally}
+use Rattle.metadata.specs.Kinds.{hash_kind, range_kind}
 use Rattle.metadata.specs.Rooms.{tablet_room, retirement_room}
 use Rattle.metadata.specs.Texts.{key_text}
 use Rattle.text.specs.Ranges.{overlapb}
-use Rattle.metadata.specs.Answers.{◌⊳◌, refuse, each}
+use Rattle.metadata.specs.Answers.{◌⊳◌, answer_if, each}
 use Rattle.metadata.specs.Tables.{
   table_key,
   tablet_key,
@@ -35,10 +36,10 @@ use Rattle.metadata.specs.declared.RetiredReplicaLifetime.{RetiredReplicaLifetim
 -- ---- tablets
 
 abbrev pub is_hash : TabletDescriptor → Bool
-is_hash t = eqb t.partition.kind 0
+is_hash t = eqb t.partition.kind hash_kind
 
 abbrev pub is_range : TabletDescriptor → Bool
-is_range t = eqb t.partition.kind 1
+is_range t = eqb t.partition.kind range_kind
 
 abbrev pub in_table : TableId → TabletDescriptor → Bool
 in_table k t = eqb t.table_id.0 k.0
@@ -51,9 +52,9 @@ holds_bucket k bucket t = is_hash t && (in_table k t && eqb t.partition.bucket b
 unfoldable pub judge_hash : List TableRow → List TabletDescriptor → TabletDescriptor → Answer
 judge_hash tables tablets t =
     let limit : ℕ = (table_of t.table_id.0 tables).tablet_count in
-    refuse (not (eqb t.partition.bucket_count limit)) (A.PartitionCountMismatch t.table_id limit t.partition.bucket_count)
-    ⊳ refuse (any (holds_bucket t.table_id t.partition.bucket) tablets) (A.PartitionConflict t.table_id t.partition.bucket)
-    ⊳ refuse (leb limit (tally (in_table t.table_id) tablets)) (A.TabletCountExceeded t.table_id limit)
+    answer_if (not (eqb t.partition.bucket_count limit)) (A.PartitionCountMismatch t.table_id limit t.partition.bucket_count)
+    ⊳ answer_if (any (holds_bucket t.table_id t.partition.bucket) tablets) (A.PartitionConflict t.table_id t.partition.bucket)
+    ⊳ answer_if (leb limit (tally (in_table t.table_id) tablets)) (A.TabletCountExceeded t.table_id limit)
 
 -- the ranges of two tablets overlap
 abbrev pub partitions_overlap : PartitionSpec → PartitionSpec → Bool
@@ -62,7 +63,7 @@ partitions_overlap a b = overlapb (key_text a.start_key) (key_text a.end_key) (k
 -- "24 overlap (lowest overlapping tablet id)"
 abbrev pub overlap_at : TabletDescriptor → TabletDescriptor → Answer
 overlap_at t old =
-    refuse (is_range old && (in_table t.table_id old && partitions_overlap t.partition old.partition)) (A.RangeOverlap old.tablet_id)
+    answer_if (is_range old && (in_table t.table_id old && partitions_overlap t.partition old.partition)) (A.RangeOverlap old.tablet_id)
 
 unfoldable pub judge_range : List TabletDescriptor → TabletDescriptor → Answer
 judge_range tablets t = each (overlap_at t) tablets
@@ -70,10 +71,10 @@ judge_range tablets t = each (overlap_at t) tablets
 -- "19 RaftGroupConflict (group); 20 UnknownTable (table)", then by kind; 39 last
 unfoldable pub judge_new_tablet : List TableRow → List TabletDescriptor → TabletDescriptor → Answer
 judge_new_tablet tables tablets t =
-    refuse (has group_key t.raft_group_id.0 tablets) (A.RaftGroupConflict t.raft_group_id)
-    ⊳ refuse (not (has table_key t.table_id.0 tables)) (A.UnknownTable t.table_id)
+    answer_if (has group_key t.raft_group_id.0 tablets) (A.RaftGroupConflict t.raft_group_id)
+    ⊳ answer_if (not (has table_key t.table_id.0 tables)) (A.UnknownTable t.table_id)
     ⊳ cond (is_hash t) (judge_hash tables tablets t) (judge_range tablets t)
-    ⊳ refuse (leb tablet_room (length tablets)) (A.TableFull K.Tablets tablet_room)
+    ⊳ answer_if (leb tablet_room (length tablets)) (A.TableFull K.Tablets tablet_room)
 
 -- "id known: AlreadyApplied if equal, else 18 TabletIdConflict (tablet)"
 unfoldable pub judge_tablet : List TableRow → List TabletDescriptor → TabletDescriptor → Answer
@@ -106,16 +107,16 @@ judge_known_retirement retirements x =
 unfoldable pub judge_new_retirement : TabletDescriptor → List DesiredReplicaPlacement → List RetiredReplicaLifetime → RetiredReplicaLifetime → Answer
 judge_new_retirement t placements retirements x =
     let stored : ℕ = (placement_of t.tablet_id.0 placements).configuration_epoch in
-    refuse (not (has placement_key t.tablet_id.0 placements)) (A.UnknownTablet t.tablet_id)
-    ⊳ refuse (not (eqb x.desired_configuration_epoch stored)) (A.PlacementEpochMismatch t.tablet_id stored x.desired_configuration_epoch)
-    ⊳ refuse (leb retirement_room (length retirements)) (A.TableFull K.Retirements retirement_room)
+    answer_if (not (has placement_key t.tablet_id.0 placements)) (A.UnknownTablet t.tablet_id)
+    ⊳ answer_if (not (eqb x.desired_configuration_epoch stored)) (A.PlacementEpochMismatch t.tablet_id stored x.desired_configuration_epoch)
+    ⊳ answer_if (leb retirement_room (length retirements)) (A.TableFull K.Retirements retirement_room)
 
 -- "35 UnknownRaftGroup (group); 36 RetirementStillDesired (group, replica)"
 unfoldable pub judge_retirement : List TabletDescriptor → List DesiredReplicaPlacement → List RetiredReplicaLifetime → RetiredReplicaLifetime → Answer
 judge_retirement tablets placements retirements x =
     let t : TabletDescriptor = tablet_of_group x.raft_group_id.0 tablets in
-    refuse (not (has group_key x.raft_group_id.0 tablets)) (A.UnknownRaftGroup x.raft_group_id)
-    ⊳ refuse (desires x.replica_id.0 (placement_of t.tablet_id.0 placements)) (A.RetirementStillDesired x.raft_group_id x.replica_id)
+    answer_if (not (has group_key x.raft_group_id.0 tablets)) (A.UnknownRaftGroup x.raft_group_id)
+    ⊳ answer_if (desires x.replica_id.0 (placement_of t.tablet_id.0 placements)) (A.RetirementStillDesired x.raft_group_id x.replica_id)
     ⊳ cond (is_replica_retired x.raft_group_id.0 x.replica_id.0 retirements)
     (judge_known_retirement retirements x)
     (judge_new_retirement t placements retirements x)

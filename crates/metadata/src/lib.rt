@@ -62,7 +62,7 @@ pub type OptionalName = Optional<NAME_WIDTH>;
 pub type OptionalLabel = Optional<LABEL_WIDTH>;
 
 // Lifecycle, kind and role are bytes in the rows, as on the tape: a command may bring any byte, which reason 5 refuses, and an enum could not hold it.
-// Which station a lifecycle is, is read as an enum (`NodeLifecycle::from_number`), but for `is_active`; a kind and a role are asked by one comparison each time.
+// Which lifecycle a number is, is read as an enum (`NodeLifecycle::from_number`), but for `is_active`; a kind and a role are asked by one comparison each time.
 #[derive(Clone, Copy)]
 pub struct NodeDescriptor {
     pub node_id: NodeId,

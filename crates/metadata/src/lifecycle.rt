@@ -1,6 +1,6 @@
-// The stations of a node, and which moves are allowed.
+// A node's lifecycles, and which moves are allowed.
 ghost use Rattle.metadata.specs.Nodes.{lifecycle_can_advance};
-ghost use Rattle.metadata.specs.Stations.{station, number};
+ghost use Rattle.metadata.specs.Lifecycles.{lifecycle_of, number};
 ghost use Rattle.std.specs.Prelude.{◌≡◌, eqb};
 
 use crate::NodeDescriptor;
@@ -15,9 +15,9 @@ pub enum NodeLifecycle {
 }
 
 impl NodeLifecycle {
-    // The station with this number; none above 4.
+    // The lifecycle with this number; none above 4.
     pub fn from_number(n: u8) -> Option<Self>
-        ensures { result ≡ station n }
+        ensures { result ≡ lifecycle_of n }
     {
         match n {
             0 => Some(NodeLifecycle::Active),

@@ -1,46 +1,63 @@
 -- The search for a clash of endpoints: over the new node's fields, and over the rows of the nodes. Assumes nothing.
-use Rattle.std.specs.Prelude.{◌≡◌, ℕ, ◌+◌, ◌<◌, ◌≤◌, List, Option, Some, None, map, length, get_or, drop}
+use Rattle.std.specs.Prelude.{◌≡◌, ℕ, ◌+◌, ◌<◌, ◌≤◌, Bool, List, [], Option, Some, None, map, length, get_or, drop}
 use Rattle.std.proofs.Common.{rules, refl, sym, ap, ◌∙◌, arith, add-one}
+use Rattle.std.proofs.lemmas.List.{get_or-map}
 use lib.ListN.{drop_of_length-le, length-map}
 use lib.Seq.{drop-cons}
+use Rattle.laws.specs.Bytes.{eq_bytes}
 use Rattle.laws.specs.Rows.{find_index}
+use Rattle.laws.proofs.Through.{find_map}
 use Rattle.metadata.specs.Nodes.{clash_fields, clash}
 use Rattle.metadata.specs.Tables.{endpoints}
-use Rattle.metadata.specs.Texts.{Name, same_name}
+use Rattle.metadata.specs.Texts.{Name, same_name, blank_name}
 use Rattle.metadata.specs.declared.Clash.{Clash}
 use Rattle.metadata.specs.declared.NodeDescriptor.{NodeDescriptor}
 use Rattle.metadata.specs.declared.NodeId.{NodeId}
+use Rattle.text.specs.Texts.{same_text, text_of}
 
--- the new node's fields before j, which v reads from xs, clash with none of the existing node's, which are held
-pub record Fields {B : Type 0} (v : B → Name) (old new : NodeDescriptor) (held : List Name) (xs : List B) (j : ℕ) : Type 0 where
-  pub reads : map v xs ≡ endpoints new
-  pub holds : held ≡ endpoints old
-  pub left : clash_fields old 0 (endpoints new) ≡ clash_fields old j (map v (drop j xs))
+-- the new node's fields before j clash with none of the existing node's: v reads the bytes of the new one's, xs, and of the existing one's, existing
+pub record Fields {B : Type 0} (v : B → List ℕ) (old new : NodeDescriptor) (existing xs : List B) (j : ℕ) : Type 0 where
+  pub reads : map v xs ≡ map text_of (endpoints new)
+  pub holds : map v existing ≡ map text_of (endpoints old)
+  pub left : clash_fields old 0 (endpoints new) ≡ clash_fields old j (drop j (endpoints new))
 
-module _ {B : Type 0} {v : B → Name} {old new : NodeDescriptor} {held : List Name} {xs : List B} where
-  pub fields_start : map v xs ≡ endpoints new → held ≡ endpoints old → Fields v old new held xs 0
-  fields_start e h = record { reads = e; holds = h; left = rw e }
+module _ {B : Type 0} {v : B → List ℕ} {old new : NodeDescriptor} {existing xs : List B} where
+  pub fields_start : map v xs ≡ map text_of (endpoints new) → map v existing ≡ map text_of (endpoints old) → Fields v old new existing xs 0
+  fields_start e h = record { reads = e; holds = h; left = refl }
 
-  four : {j : ℕ} → Fields v old new held xs j → length xs ≡ 4
+  four : {j : ℕ} → Fields v old new existing xs j → length xs ≡ 4
   four s = sym (length-map xs v) ∙ ap length s.reads
 
-  pub fields_end : {j : ℕ} → Fields v old new held xs j → 4 ≤ j → clash_fields old 0 (endpoints new) ≡ None
+  pub fields_end : {j : ℕ} → Fields v old new existing xs j → 4 ≤ j → clash_fields old 0 (endpoints new) ≡ None
   unfolding clash_fields
-  fields_end {j} s h = s.left ∙ rw (drop_of_length-le xs {i = j} (omega (arith, four s)))
+  fields_end {j} s h = s.left ∙ rw (drop_of_length-le (endpoints new) {i = j} h)
 
   -- the field at hand clashes with none, or with field k of the existing node
-  module _ {j : ℕ} (d : B) (s : Fields v old new held xs j) (h : j < 4) where
-    own : {o : Option ℕ} → find_index (λ e. same_name e (v (get_or xs j d))) held ≡ o → find_index (λ e. same_name e (v (get_or xs j d))) (endpoints old) ≡ o
-    own e = ap (find_index (λ e. same_name e (v (get_or xs j d)))) (sym s.holds) ∙ e
+  module _ {j : ℕ} (d : B) (s : Fields v old new existing xs j) (h : j < 4) where
+    abbrev field : Name
+    field = get_or (endpoints new) j blank_name
 
-    pub fields_next : find_index (λ e. same_name e (v (get_or xs j d))) held ≡ None → Fields v old new held xs (j + 1)
+    bytes_are : v (get_or xs j d) ≡ text_of field
+    bytes_are =
+        sym (get_or-map v xs j d [] (omega (arith, four s)))
+        ∙ ap (λ (l : List (List ℕ)). get_or l j []) s.reads
+        ∙ get_or-map text_of (endpoints new) j blank_name [] h
+
+    -- names are the same where their bytes are
+    own : {o : Option ℕ} → find_index (λ e. eq_bytes (v e) (v (get_or xs j d))) existing ≡ o → find_index (λ e. same_name e field) (endpoints old) ≡ o
+    unfolding same_text
+    own e =
+        let p : List ℕ → Bool = λ b. eq_bytes b (text_of field) in
+        find_map text_of p (endpoints old) ∙ ap (find_index p) (sym s.holds) ∙ sym (find_map v p existing) ∙ (rw bytes_are at e)
+
+    pub fields_next : find_index (λ e. eq_bytes (v e) (v (get_or xs j d))) existing ≡ None → Fields v old new existing xs (j + 1)
     unfolding clash_fields
-    fields_next e = record { reads = s.reads; holds = s.holds; left = s.left ∙ rw (drop-cons xs j d (omega (arith, four s)), own e, add-one) }
+    fields_next e = record { reads = s.reads; holds = s.holds; left = s.left ∙ rw (drop-cons (endpoints new) j blank_name h, own e, add-one) }
 
-    pub fields_stop : (id : NodeId) (k : ℕ) → find_index (λ e. same_name e (v (get_or xs j d))) held ≡ Some k → id ≡ old.node_id
+    pub fields_stop : (id : NodeId) (k : ℕ) → find_index (λ e. eq_bytes (v e) (v (get_or xs j d))) existing ≡ Some k → id ≡ old.node_id
         → clash_fields old 0 (endpoints new) ≡ Some (record { node_id = id; field = j; existing_field = k })
     unfolding clash_fields
-    fields_stop id k e n = s.left ∙ rw (drop-cons xs j d (omega (arith, four s)), own e, n)
+    fields_stop id k e n = s.left ∙ rw (drop-cons (endpoints new) j blank_name h, own e, n)
 
 -- the rows before i clash in no field; r reads a row
 pub record Rows {A : Type 0} (r : A → NodeDescriptor) (new : NodeDescriptor) (rows : List A) (i : ℕ) (found : Option Clash) : Type 0 where

@@ -12,9 +12,9 @@ use rows::{
 };
 use tables::{get, stored};
 
-// `from` and `to` are the bytes that rows and commands hold; what is no station is answered, and not ruled out by a type.
-// Only one step forward; no move from or to what is no station.
-#[tactic(auto, using(crate::proofs::Advance::by_stations))]
+// `from` and `to` are the bytes that rows and commands hold; what is no lifecycle is answered, and not ruled out by a type.
+// Only one step forward; no move from or to what is no lifecycle.
+#[tactic(auto, using(crate::proofs::Advance::by_lifecycles))]
 pub fn lifecycle_can_advance(from: u8, to: u8) -> bool
     ensures { result ≡ lifecycle_can_advance from to }
 {
@@ -38,7 +38,7 @@ fn leaves(to: u8) -> bool
 }
 
 // The copy does not stand on the node.
-#[tactic(auto, unfolding(metadata::specs::Answers::refuse))]
+#[tactic(auto, unfolding(metadata::specs::Answers::answer_if))]
 fn expected_on(k: NodeId, t: &TabletBytes, r: &DesiredReplica) -> Result<(), Answer>
     ensures { Gives result (expected_at k (tablet_row t.now) r.now) }
 {
@@ -87,7 +87,7 @@ pub fn still_expected(
 
 // Whether a node that is known may move there, by its lifecycle; who expects it is asked only where it leaves.
 // `k` and `to` are the operands of the command, here and below; registering brings them in a row.
-#[tactic(auto, unfolding(crate::specs::Steps::judge_move, metadata::specs::Answers::refuse, metadata::specs::Answers::and_then))]
+#[tactic(auto, unfolding(crate::specs::Steps::judge_move, metadata::specs::Answers::answer_if, metadata::specs::Answers::and_then))]
 pub fn judge_move(
     from: u8,
     tablets: &[TabletBytes],
@@ -111,7 +111,7 @@ pub fn judge_move(
 
 // The same by its id.
 // A check is lent the tables that it reads, one by one: a struct of all four would hide which it reads.
-#[tactic(auto, unfolding(metadata::specs::Nodes::judge_lifecycle, crate::specs::Steps::judge_move, metadata::specs::Answers::refuse, metadata::specs::Answers::and_then))]
+#[tactic(auto, unfolding(metadata::specs::Nodes::judge_lifecycle, crate::specs::Steps::judge_move, metadata::specs::Answers::answer_if, metadata::specs::Answers::and_then))]
 pub fn judge_lifecycle(
     nodes: &[NodeBytes],
     tablets: &[TabletBytes],

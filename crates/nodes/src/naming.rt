@@ -5,7 +5,7 @@ ghost use Rattle.metadata.specs.Nodes.{judge_naming};
 use metadata::{Answer, Name, OptionalName};
 
 // The same name again changes nothing, another is refused.
-#[tactic(auto, unfolding(metadata::specs::Nodes::judge_naming, metadata::specs::Answers::refuse, metadata::specs::Answers::and_then))]
+#[tactic(auto, unfolding(metadata::specs::Nodes::judge_naming, metadata::specs::Answers::answer_if, metadata::specs::Answers::and_then))]
 pub fn judge_naming(name: &OptionalName, t: &Name) -> Result<(), Answer>
     ensures { Gives result (judge_naming name.now t.now) }
 {

@@ -10,11 +10,11 @@ use metadata::{Answer, NODE_ROOM, NodeDescriptor, TableKind};
 use rows::{NodeBytes, Nodes, PlacementBytes, TabletBytes};
 use tables::get;
 
-// In refusal 15, where a node that is new comes from: document 01's number, of no station.
+// In refusal 15, where a node that is new comes from: document 01's number, of no lifecycle.
 const UNREGISTERED: u8 = 5;
 
 // A node whose id is new: its endpoints clash with none, it is Active, and a row is left.
-#[tactic(auto, unfolding(metadata::specs::Nodes::judge_new_node, metadata::specs::Answers::refuse, metadata::specs::Answers::and_then))]
+#[tactic(auto, unfolding(metadata::specs::Nodes::judge_new_node, metadata::specs::Answers::answer_if, metadata::specs::Answers::and_then))]
 pub fn judge_new_node(nodes: &[NodeBytes], n: &NodeDescriptor) -> Result<(), Answer>
     ensures { Gives result (judge_new_node (node_rows nodes.now) n.now) }
 {
@@ -31,7 +31,7 @@ pub fn judge_new_node(nodes: &[NodeBytes], n: &NodeDescriptor) -> Result<(), Ans
 }
 
 // A node that is known, against its row: the same record, another directory, or a move.
-#[tactic(auto, unfolding(crate::specs::Steps::judge_known_row, metadata::specs::Answers::refuse, metadata::specs::Answers::and_then))]
+#[tactic(auto, unfolding(crate::specs::Steps::judge_known_row, metadata::specs::Answers::answer_if, metadata::specs::Answers::and_then))]
 fn judge_known_node(
     old: &NodeDescriptor,
     tablets: &[TabletBytes],
@@ -50,7 +50,7 @@ fn judge_known_node(
 }
 
 // By its id: a node that is known, or a new one.
-#[tactic(auto, unfolding(metadata::specs::Nodes::judge_registering, metadata::specs::Nodes::judge_known_node, metadata::specs::Nodes::judge_lifecycle, crate::specs::Steps::judge_known_row, crate::specs::Steps::judge_move, metadata::specs::Answers::refuse, metadata::specs::Answers::and_then))]
+#[tactic(auto, unfolding(metadata::specs::Nodes::judge_registering, metadata::specs::Nodes::judge_known_node, metadata::specs::Nodes::judge_lifecycle, crate::specs::Steps::judge_known_row, crate::specs::Steps::judge_move, metadata::specs::Answers::answer_if, metadata::specs::Answers::and_then))]
 pub fn judge_registering(
     nodes: &[NodeBytes],
     tablets: &[TabletBytes],

@@ -3,12 +3,12 @@
 // The tape program: the command tape on standard input, output lines on standard output. It reads as it goes and never holds
 // more than a buffer of the tape. With --dump it prints the final tables and marks behind the last line. What failed is said on standard error.
 use dump::dump_store;
-use feeding::{End, Failure, run_tape};
 use layout::STORE_BYTES;
 use std::env::{Env, FillError};
 use std::io;
 use std::io::Print;
 use std::process::ExitCode;
+use streaming::{End, Failure, run_tape};
 use waiting::Waiting;
 
 // How much of an argument is read; a longer one is none that is accepted.

@@ -4,7 +4,7 @@ use Rattle.std.specs.Option.{is_some, option_map, option_copied}
 use Rattle.std.specs.Prelude.{◌≡◌, ℕ, Bool, true, false, not, cond, ◌&&◌, List, [], ◌∷◌, Option, Some, None, leb, length, MatchOption}
 use Rattle.std.proofs.Common.{refl, sym, ap, ap₂, ◌∙◌}
 use Rattle.laws.specs.Keyed.{Keyed, look, has}
-use Rattle.metadata.specs.Answers.{◌⊳◌, and_then, refuse, each}
+use Rattle.metadata.specs.Answers.{◌⊳◌, and_then, answer_if, each}
 use Rattle.metadata.specs.Tables.{tablet_key, placement_key, tablet_of, placement_of, blank_placement, desired, leaders, same_placement}
 use Rattle.metadata.specs.Placements.{judge_replica, judge_leader, hosts, judge_domains, judge_kept_replicas, judge_epoch, judge_new_placement, judge_placement}
 use Rattle.metadata.specs.Rooms.{tablet_room}
@@ -48,8 +48,8 @@ unfolding judge_domains judge_spread
 domains_at nodes p = refl
 
 -- two checks that pass
-two_passed : (a b : Bool) (x y z : Answer) → a ≡ true → b ≡ false → (refuse (not a) x ⊳ refuse b y ⊳ z) ≡ z
-unfolding refuse and_then
+two_passed : (a b : Bool) (x y z : Answer) → a ≡ true → b ≡ false → (answer_if (not a) x ⊳ answer_if b y ⊳ z) ≡ z
+unfolding answer_if and_then
 two_passed a b x y z e f = rw (e, f) refl
 
 -- ---- the checks as wholes
@@ -64,7 +64,7 @@ module _ (nodes : List NodeDescriptor) (tablets : List TabletDescriptor) (placem
       ⊳ judge_domains nodes p
       ⊳ cond t (judge_epoch_after (Some q) p) (judge_epoch_after None p)
       ⊳ judge_kept_replicas (desired q) (desired p)
-      ⊳ refuse (not t && leb tablet_room (length placements)) (A.TableFull K.Tablets tablet_room)
+      ⊳ answer_if (not t && leb tablet_room (length placements)) (A.TableFull K.Tablets tablet_room)
       ≡ judge_new_after nodes retirements group o (length placements) p
   after_go None t q e f = rw (e, f)
   after_go (Some r) t q e f = rw (e, f)
@@ -80,13 +80,13 @@ module _ (nodes : List NodeDescriptor) (tablets : List TabletDescriptor) (placem
 
   pub placed_at :
       judge_placement nodes tablets placements retirements p
-      ≡ refuse (not (has tablet_key p.tablet_id.0 tablets)) (A.UnknownTablet p.tablet_id)
-      ⊳ refuse (is_stored (stored_in p.tablet_id.0 placements) p) A.AlreadyApplied
+      ≡ answer_if (not (has tablet_key p.tablet_id.0 tablets)) (A.UnknownTablet p.tablet_id)
+      ⊳ answer_if (is_stored (stored_in p.tablet_id.0 placements) p) A.AlreadyApplied
       ⊳ judge_new_after nodes retirements group (stored_in p.tablet_id.0 placements) (length placements) p
   unfolding judge_placement
   placed_at =
       ap₂
-      (λ (t : Bool) (a : Answer). refuse (not (has tablet_key p.tablet_id.0 tablets)) (A.UnknownTablet p.tablet_id) ⊳ refuse t A.AlreadyApplied ⊳ a)
+      (λ (t : Bool) (a : Answer). answer_if (not (has tablet_key p.tablet_id.0 tablets)) (A.UnknownTablet p.tablet_id) ⊳ answer_if t A.AlreadyApplied ⊳ a)
       (same_go (stored_in p.tablet_id.0 placements) _ _ (has_stored p.tablet_id.0 placements) (of_stored p.tablet_id.0 placements))
       new_after
 

@@ -4,7 +4,7 @@ use Rattle.std.specs.Prelude.{ℕ, ◌+◌, Bool, false, not, ◌&&◌, List, []
 use Rattle.laws.specs.Keyed.{look}
 use Rattle.metadata.specs.Rooms.{tablet_room}
 use Rattle.metadata.specs.Marks.{mark_limit}
-use Rattle.metadata.specs.Answers.{◌⊳◌, refuse, each}
+use Rattle.metadata.specs.Answers.{◌⊳◌, answer_if, each}
 use Rattle.metadata.specs.Tables.{placement_key, desired, leaders, same_placement}
 use Rattle.metadata.specs.Placements.{judge_replica, judge_leader, judge_domains, judge_kept_replicas}
 use Rattle.metadata.specs.declared.Answer.{Answer}
@@ -32,14 +32,14 @@ is_stored (Some q) p = same_placement q p
 
 -- `judge_epoch`
 abbrev pub judge_epoch_after : Option DesiredReplicaPlacement → DesiredReplicaPlacement → Answer
-judge_epoch_after None p = refuse (not (eqb p.configuration_epoch 1)) (A.InitialPlacementEpoch p.tablet_id p.configuration_epoch)
+judge_epoch_after None p = answer_if (not (eqb p.configuration_epoch 1)) (A.InitialPlacementEpoch p.tablet_id p.configuration_epoch)
 judge_epoch_after (Some q) p =
-    refuse (eqb q.configuration_epoch mark_limit) (A.PlacementEpochExhausted p.tablet_id)
-    ⊳ refuse (not (eqb p.configuration_epoch (q.configuration_epoch + 1))) (A.PlacementEpochMismatch p.tablet_id (q.configuration_epoch + 1) p.configuration_epoch)
+    answer_if (eqb q.configuration_epoch mark_limit) (A.PlacementEpochExhausted p.tablet_id)
+    ⊳ answer_if (not (eqb p.configuration_epoch (q.configuration_epoch + 1))) (A.PlacementEpochMismatch p.tablet_id (q.configuration_epoch + 1) p.configuration_epoch)
 
 -- the last check of `judge_new_placement`, in a table of count placements
 abbrev pub judge_room : Option DesiredReplicaPlacement → ℕ → Answer
-judge_room stored count = refuse (not (is_some stored) && leb tablet_room count) (A.TableFull K.Tablets tablet_room)
+judge_room stored count = answer_if (not (is_some stored) && leb tablet_room count) (A.TableFull K.Tablets tablet_room)
 
 -- `judge_new_placement`, in a group and a table of count placements
 abbrev pub judge_new_after : List NodeDescriptor → List RetiredReplicaLifetime → RaftGroupId → Option DesiredReplicaPlacement → ℕ → DesiredReplicaPlacement → Answer

@@ -1,4 +1,4 @@
-#![tactic(auto, unfolding(metadata::specs::Answers::refuse, metadata::specs::Answers::and_then))]
+#![tactic(auto, unfolding(metadata::specs::Answers::answer_if, metadata::specs::Answers::and_then))]
 
 // A placement against the stored one (document 01, refusals 30 to 34): its epoch, and the replicas that are kept.
 ghost use Rattle.metadata.specs.Answers.{Gives};

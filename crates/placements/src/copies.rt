@@ -26,7 +26,7 @@ fn stands_already(r: &DesiredReplica, old: &[DesiredReplica]) -> bool
         .any(|o| o.replica_id == r.replica_id && o.node_id == r.node_id)
 }
 
-// Active, or Draining or Decommissioning if the replica stands there already. The lifecycle is a row's byte, and one of no station is not eligible.
+// Active, or Draining or Decommissioning if the replica stands there already. The lifecycle is a row's byte, and one that is none is not eligible.
 #[tactic(auto, unfolding(metadata::specs::Placements::eligible))]
 fn eligible(lifecycle: u8, stands: bool) -> bool
     ensures { result ≡ eligible lifecycle stands }
@@ -47,7 +47,7 @@ fn class_differs(class: &OptionalLabel, n: &NodeBytes) -> bool
 }
 
 // 17, 26, 27 and 28, for one replica; `old` are the replicas of the stored placement. It hands on the replica's node, so that no one looks it up again.
-#[tactic(auto, unfolding(metadata::specs::Placements::judge_replica, metadata::specs::Answers::refuse, metadata::specs::Answers::and_then))]
+#[tactic(auto, unfolding(metadata::specs::Placements::judge_replica, metadata::specs::Answers::answer_if, metadata::specs::Answers::and_then))]
 fn judge_replica<'a>(
     nodes: &'a [NodeBytes],
     retirements: &[RetirementBytes],
@@ -75,7 +75,7 @@ fn judge_replica<'a>(
 }
 
 // 17 and 26, for one preferred leader: it is there, and Active.
-#[tactic(auto, unfolding(metadata::specs::Placements::judge_leader, metadata::specs::Answers::refuse, metadata::specs::Answers::and_then))]
+#[tactic(auto, unfolding(metadata::specs::Placements::judge_leader, metadata::specs::Answers::answer_if, metadata::specs::Answers::and_then))]
 fn judge_leader(nodes: &[NodeBytes], k: NodeId) -> Result<(), Answer>
     ensures { Gives result (judge_leader (node_rows nodes.now) k) }
 {

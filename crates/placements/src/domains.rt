@@ -1,4 +1,4 @@
-#![tactic(auto, unfolding(metadata::specs::Answers::refuse, metadata::specs::Answers::and_then))]
+#![tactic(auto, unfolding(metadata::specs::Answers::answer_if, metadata::specs::Answers::and_then))]
 
 // Failure domains (document 01, refusal 29).
 ghost use Rattle.metadata.specs.Answers.{Gives};
@@ -9,18 +9,11 @@ ghost use Rattle.placements.specs.Domains.{judge_spread};
 ghost use Rattle.rows.specs.Rows.{node_row};
 ghost use Rattle.std.specs.Prelude.{◌≡◌, map};
 
-use labels::{NodeList, distinct};
+use labels::{NodeList, distinct_up_to};
 use metadata::{Answer, Domain, PlacementPolicy, REPLICA_ROOM};
 
-// How many distinct labels the nodes have.
+// No more labels are counted than are required: a count below that is the whole.
 // `on` are the nodes of the replicas, as `judge_replicas` found them: each check is lent them, so that no node is looked up again.
-fn observed(domain: Domain, on: &NodeList<'_, REPLICA_ROOM>) -> u32
-    ensures { result ≡ distinct (map (label_of domain) (map (λ n. node_row n.now) on.now)) }
-{
-    distinct(domain, on.used()) as u32
-}
-
-// Where none is required none is counted.
 fn judge_domain(
     domain: Domain,
     required: u32,
@@ -28,10 +21,7 @@ fn judge_domain(
 ) -> Result<(), Answer>
     ensures { Gives result (judge_domain domain required (distinct (map (label_of domain) (map (λ n. node_row n.now) on.now)))) }
 {
-    if required == 0 {
-        return Ok(());
-    }
-    let observed = observed(domain, on);
+    let observed = distinct_up_to(domain, on.used(), required as usize) as u32;
     if observed < required {
         return Err(Answer::PlacementDomainUnsatisfied(domain, required, observed));
     }
@@ -39,7 +29,7 @@ fn judge_domain(
 }
 
 // Regions, then zones, then racks.
-#[tactic(auto, unfolding(crate::specs::Domains::judge_spread, metadata::specs::Answers::refuse, metadata::specs::Answers::and_then))]
+#[tactic(auto, unfolding(crate::specs::Domains::judge_spread, metadata::specs::Answers::answer_if, metadata::specs::Answers::and_then))]
 pub fn judge_domains(q: &PlacementPolicy, on: &NodeList<'_, REPLICA_ROOM>) -> Result<(), Answer>
     ensures { Gives result (judge_spread (map (λ n. node_row n.now) on.now) q.now) }
 {

@@ -21,7 +21,7 @@ use rows::{
 };
 
 // The checks of a placement that is not the stored one, from top to bottom: in its tablet's group, beside the stored one, in a table of count placements.
-#[tactic(auto, unfolding(metadata::specs::Answers::refuse, metadata::specs::Answers::and_then), using(crate::proofs::Looked::domains_at))]
+#[tactic(auto, unfolding(metadata::specs::Answers::answer_if, metadata::specs::Answers::and_then), using(crate::proofs::Looked::domains_at))]
 fn judge_new_placement(
     nodes: &[NodeBytes],
     retirements: &[RetirementBytes],
@@ -53,7 +53,7 @@ fn stored_placement(
 
 // 25 for a tablet that is not there; 1 for the placement that is stored already; else the checks of a new one. Each table is searched once, and what was found handed on.
 // It is lent the tables that it reads, one by one: so its signature says which.
-#[tactic(auto, unfolding(metadata::specs::Answers::refuse, metadata::specs::Answers::and_then), using(crate::proofs::Looked::placed_at))]
+#[tactic(auto, unfolding(metadata::specs::Answers::answer_if, metadata::specs::Answers::and_then), using(crate::proofs::Looked::placed_at))]
 pub fn judge_placement(
     nodes: &[NodeBytes],
     tablets: &[TabletBytes],

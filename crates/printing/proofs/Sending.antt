@@ -1,9 +1,16 @@
 -- A text that is sent in several writes. Assumes nothing.
-use Rattle.std.proofs.Common.{◌≡◌, ℕ, ◌+◌, ◌-◌, ◌≤◌, List, ◌++◌, length, take, drop, sym, ap, ◌∙◌, subst, true≢false, arith, take-add, take_all, length-drop}
+use Rattle.std.proofs.Common.{◌≡◌, ℕ, ◌+◌, ◌-◌, ◌≤◌, List, ◌++◌, length, take, drop, sym, ap, ◌∙◌, subst, true≢false, arith, append_assoc, take-add, take_all, length-append, length-drop}
 use Rattle.std.specs.Prelude.{Option, Result, Ok, Err, IsErr, OnOk}
 use Rattle.std.specs.Io.KnownBytes.{Keeps, Appends}
 use Rattle.std.proofs.KnownBytes.{Appends-nil, Appends-trans, Appends-kept}
+use Rattle.std.proofs.Math.Seq.{take-append-add}
+use Rattle.std.proofs.lemmas.List.{take-append-le}
 use Rattle.printing.specs.Sent.{Sent}
+
+-- what is said of a success, of a failure
+of_failure : {V E : Type 0} (r : Result V E) (P : Type 0) → IsErr r → OnOk r P
+of_failure (Ok y) P e = absurd (true≢false (sym e))
+of_failure (Err y) P e = tt
 
 -- the first `done` bytes were written
 pub record Sending (old new : Option (List ℕ)) (text : List ℕ) (done : ℕ) : Type 0 where
@@ -29,11 +36,21 @@ module _ (old new : Option (List ℕ)) (text : List ℕ) (done : ℕ) (s : Sendi
   send_ended v h = record { count = done; within = s.within; wrote = s.wrote; all = omega (arith, s.within) }
 
   pub send_failed : {V E : Type 0} (r : Result V E) (next : Option (List ℕ)) → IsErr r → Keeps new next → Sent old next text r
-  send_failed {V} {E} r next f k = record { count = done; within = s.within; wrote = Appends-kept old new next (take done text) s.wrote k; all = none r f }
-    where
-      none : (x : Result V E) → IsErr x → OnOk x (done ≡ length text)
-      none (Ok y) e = absurd (true≢false (sym e))
-      none (Err y) e = tt
+  send_failed r next f k = record { count = done; within = s.within; wrote = Appends-kept old new next (take done text) s.wrote k; all = of_failure r _ f }
+
+-- a text was sent, and a beginning of another behind it: a beginning of both, whatever is behind them
+pub sent_behind : {V E V' E' V'' E'' : Type 0} {old mid new : Option (List ℕ)} (a b rest : List ℕ) {v : V} {r : Result V' E'} → Sent {E = E} old mid a (Ok v) → Sent mid new b r
+    → (r' : Result V'' E'') → IsErr r' → Sent old new ((a ++ b) ++ rest) r'
+sent_behind {old = old} {mid = mid} {new = new} a b rest s t r' f =
+    let whole : take s.count a ≡ a = take_all s.count a (omega (arith, s.all)) in
+    let joined : take (length a + t.count) ((a ++ b) ++ rest) ≡ a ++ take t.count b =
+    ap (take (length a + t.count)) (append_assoc a b rest) ∙ take-append-add a (b ++ rest) t.count ∙ ap (λ x. a ++ x) (take-append-le t.count b rest t.within) in
+    record {
+      count = length a + t.count;
+      within = omega (arith, t.within, length-append (a ++ b) rest, length-append a b);
+      wrote = subst (Appends old new) (sym joined) (Appends-trans old mid new a (take t.count b) (subst (Appends old mid) whole s.wrote) t.wrote);
+      all = of_failure r' _ f;
+    }
 
 -- for `using` on `emit`: what its steps ask for
 pub ruleset sending = (send_start, send_next, send_ended, send_failed)

@@ -7,7 +7,7 @@ use Rattle.laws.specs.Lists.{All}
 use Rattle.laws.proofs.KeyedLaws.{found}
 use Rattle.laws.proofs.ListLaws.{and_right, and_i}
 use Rattle.metadata.specs.Claims.{lies_in}
-use Rattle.metadata.specs.Answers.{◌⊳◌, and_then, refuse, each, reported, is_applied}
+use Rattle.metadata.specs.Answers.{◌⊳◌, and_then, answer_if, each, reported, is_applied}
 use Rattle.metadata.specs.Tables.{tablet_key, tablet_of, blank_tablet}
 use Rattle.metadata.specs.Tablets.{is_range, in_table, partitions_overlap, overlap_at, judge_range}
 use Rattle.metadata.specs.Texts.{key_text}
@@ -82,8 +82,8 @@ module _ (t : TabletDescriptor) (tablets : List TabletDescriptor) (id : TabletId
   named a = get_or (reported a).operands 0 0
 
   clash_go : (x : TabletDescriptor) (rest : Answer) → Found x → (rest ≡ A.RangeOverlap id → overlaps_row t tablets id.0 ≡ true)
-      → (b : Bool) → clashes x ≡ b → (refuse b (A.RangeOverlap x.tablet_id) ⊳ rest) ≡ A.RangeOverlap id → overlaps_row t tablets id.0 ≡ true
-  unfolding and_then refuse
+      → (b : Bool) → clashes x ≡ b → (answer_if b (A.RangeOverlap x.tablet_id) ⊳ rest) ≡ A.RangeOverlap id → overlaps_row t tablets id.0 ≡ true
+  unfolding and_then answer_if
   clash_go x rest f later true c e = clash_row x f c (ap named e)
   clash_go x rest f later false c e = later e
 

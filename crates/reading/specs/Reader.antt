@@ -4,7 +4,8 @@ use Rattle.laws.specs.Bytes.{number_at, byte_at}
 use Rattle.decode.specs.Decode.{name_at, node_at, tablet_at, placement_at, retirement_at, table_at, list_at}
 use Rattle.metadata.specs.Rooms.{table_room}
 use Rattle.metadata.specs.Opening.{opening, refused_rows}
-use Rattle.metadata.specs.Model.{StoreRows, Outcome, answers}
+use Rattle.metadata.specs.Model.{StoreRows, Outcome}
+use Rattle.metadata.specs.Run.{answers}
 use Rattle.metadata.specs.declared.Answer.{Answer}
 use Rattle.metadata.specs.declared.Answer.TheVariants as A
 use Rattle.metadata.specs.declared.kinds.TapeFault.TheVariants as F

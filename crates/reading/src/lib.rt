@@ -49,20 +49,21 @@ pub fn size_of(b: u8) -> usize
     }
 }
 
-// The command with this byte, by the operands at its place.
+// The command with this byte, by the operands at its place, written where its caller holds it.
+// It is lent and not returned: the compiler puts a returned value of seven forms together from the pieces of all seven, which takes longer than some commands.
 #[tactic(auto, unfolding(crate::specs::Reader::size_of, crate::specs::Reader::command_at))]
-pub fn command_at(b: u8, tape: &[u8], at: usize) -> Command
+pub fn read_command(b: u8, tape: &[u8], at: usize, command: &mut Command)
     requires { (is_command b ≡ true) × (at + size_of b ≤ length tape.now) }
-    ensures { result ≡ command_at b tape.now at }
+    ensures { command.new ≡ command_at b tape.now at }
 {
     match b {
-        1 => Command::Naming(text_at(tape, at)),
-        2 => Command::Registering(node_at(tape, at)),
-        3 => Command::Lifecycle(NodeId(number8(tape, at)), tape[at + 8]),
-        4 => Command::Tablet(tablet_at(tape, at)),
-        5 => Command::Placement(placement_at(tape, at)),
-        6 => Command::Retirement(retirement_at(tape, at)),
-        _ => Command::Picking,
+        1 => *command = Command::Naming(text_at(tape, at)),
+        2 => *command = Command::Registering(node_at(tape, at)),
+        3 => *command = Command::Lifecycle(NodeId(number8(tape, at)), tape[at + 8]),
+        4 => *command = Command::Tablet(tablet_at(tape, at)),
+        5 => *command = Command::Placement(placement_at(tape, at)),
+        6 => *command = Command::Retirement(retirement_at(tape, at)),
+        _ => *command = Command::Picking,
     }
 }
 

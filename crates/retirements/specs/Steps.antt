@@ -1,7 +1,7 @@
 -- Steps of the checks of a retirement that have a function of their own here, by the rows that were looked up. Assumes nothing.
 use Rattle.std.specs.Prelude.{ℕ, not, cond, List, leb, eqb, length}
 use Rattle.metadata.specs.Rooms.{retirement_room}
-use Rattle.metadata.specs.Answers.{◌⊳◌, refuse}
+use Rattle.metadata.specs.Answers.{◌⊳◌, answer_if}
 use Rattle.metadata.specs.Tables.{same_retirement}
 use Rattle.metadata.specs.declared.Answer.{Answer}
 use Rattle.metadata.specs.declared.Answer.TheVariants as A
@@ -16,5 +16,5 @@ judge_known_row known x = cond (same_retirement known x) A.AlreadyApplied (A.Ret
 -- judge_new_retirement, where the tablet has a placement and its epoch is at hand
 abbrev pub judge_new_row : TabletId → ℕ → List RetiredReplicaLifetime → RetiredReplicaLifetime → Answer
 judge_new_row tablet stored retirements x =
-    refuse (not (eqb x.desired_configuration_epoch stored)) (A.PlacementEpochMismatch tablet stored x.desired_configuration_epoch)
-    ⊳ refuse (leb retirement_room (length retirements)) (A.TableFull K.Retirements retirement_room)
+    answer_if (not (eqb x.desired_configuration_epoch stored)) (A.PlacementEpochMismatch tablet stored x.desired_configuration_epoch)
+    ⊳ answer_if (leb retirement_room (length retirements)) (A.TableFull K.Retirements retirement_room)

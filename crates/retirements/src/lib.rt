@@ -1,4 +1,4 @@
-#![tactic(auto, unfolding(metadata::specs::Answers::refuse, metadata::specs::Answers::and_then))]
+#![tactic(auto, unfolding(metadata::specs::Answers::answer_if, metadata::specs::Answers::and_then))]
 
 // Retirements: what the retirement of a replica number is answered, and which numbers are retired.
 ghost use Rattle.std.specs.Prelude.{◌≡◌, true, false, eqb, MatchOption};
@@ -94,7 +94,7 @@ fn judge_new_retirement(
 
 // The checks of a retirement, from top to bottom; each row is looked up once.
 // It is lent the tables that it reads, one by one: so its signature says which.
-#[tactic(auto, unfolding(metadata::specs::Tablets::judge_retirement, metadata::specs::Tablets::judge_known_retirement, metadata::specs::Tablets::judge_new_retirement, metadata::specs::Tablets::is_replica_retired, metadata::specs::Tablets::desires, metadata::specs::Answers::refuse, metadata::specs::Answers::and_then), using(laws::proofs::KeyedLaws::row_absent))]
+#[tactic(auto, unfolding(metadata::specs::Tablets::judge_retirement, metadata::specs::Tablets::judge_known_retirement, metadata::specs::Tablets::judge_new_retirement, metadata::specs::Tablets::is_replica_retired, metadata::specs::Tablets::desires, metadata::specs::Answers::answer_if, metadata::specs::Answers::and_then), using(laws::proofs::KeyedLaws::row_absent))]
 pub fn judge_retirement(
     tablets: &[TabletBytes],
     placements: &[PlacementBytes],

@@ -3,12 +3,12 @@ ghost use Rattle.std.specs.Prelude.{◌≡◌, ◌+◌, ◌*◌, ◌≤◌, ◌<
 ghost use Rattle.arrayvec.specs.ArrayString.{array_string_len};
 ghost use Rattle.row_lines.specs.Pieces.{three_numbers, hex_digit, hex_pair, text_field, optional_field};
 
-use crate::{PAGE_ROOM, Page, Printed, put_each};
+use crate::{DUMP_LINE_ROOM, Page, Printed, put_each};
 use lines::put_field;
 use text::{Optional, Text};
 
 pub(crate) fn put_three(out: &mut Page, a: u64, b: u64, c: u64)
-    requires { array_string_len out.old + 63 ≤ PAGE_ROOM }
+    requires { array_string_len out.old + 63 ≤ DUMP_LINE_ROOM }
     ensures text { out.new.bytes ≡ out.old.bytes ++ three_numbers a b c }
     ensures short { array_string_len out.new ≤ array_string_len out.old + 63 }
 {

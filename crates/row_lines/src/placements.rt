@@ -4,7 +4,7 @@ ghost use Rattle.arrayvec.specs.ArrayString.{array_string_len};
 ghost use Rattle.row_lines.specs.PlacementLines.{replica_text, node_number, minima_text, policy_text, replicas_text, placement_line};
 
 use crate::pieces::put_three;
-use crate::{PAGE_ROOM, Page, Printed, put_each};
+use crate::{DUMP_LINE_ROOM, Page, Printed, put_each};
 use lines::{put_field, put_number};
 use metadata::{DesiredReplica, DesiredReplicaPlacement, NodeId, PlacementPolicy};
 
@@ -35,7 +35,7 @@ impl Printed for DesiredReplica {
 
 #[tactic(auto, unfolding(crate::specs::PlacementLines::replicas_text))]
 fn put_replicas(out: &mut Page, p: &DesiredReplicaPlacement)
-    requires { array_string_len out.old + 501 ≤ PAGE_ROOM }
+    requires { array_string_len out.old + 501 ≤ DUMP_LINE_ROOM }
     ensures text { out.new.bytes ≡ out.old.bytes ++ replicas_text p.now }
     ensures short { array_string_len out.new ≤ array_string_len out.old + 501 }
 {
@@ -48,7 +48,7 @@ fn put_replicas(out: &mut Page, p: &DesiredReplicaPlacement)
 
 #[tactic(auto, unfolding(crate::specs::PlacementLines::minima_text))]
 fn put_minima(out: &mut Page, q: &PlacementPolicy)
-    requires { array_string_len out.old + 98 ≤ PAGE_ROOM }
+    requires { array_string_len out.old + 98 ≤ DUMP_LINE_ROOM }
     ensures text { out.new.bytes ≡ out.old.bytes ++ minima_text q.now }
     ensures short { array_string_len out.new ≤ array_string_len out.old + 98 }
 {
@@ -66,7 +66,7 @@ fn put_minima(out: &mut Page, q: &PlacementPolicy)
 // As far as the leaders, which a placement lists and the first choice counts.
 #[tactic(auto, unfolding(crate::specs::PlacementLines::policy_text))]
 pub(crate) fn put_policy(out: &mut Page, q: &PlacementPolicy)
-    requires { array_string_len out.old + 162 ≤ PAGE_ROOM }
+    requires { array_string_len out.old + 162 ≤ DUMP_LINE_ROOM }
     ensures text { out.new.bytes ≡ out.old.bytes ++ policy_text q.now }
     ensures short { array_string_len out.new ≤ array_string_len out.old + 162 }
 {

@@ -4,14 +4,14 @@ ghost use Rattle.arrayvec.specs.ArrayString.{array_string_len};
 ghost use Rattle.row_lines.specs.RowLines.{endpoints, node_labels, node_line, completeness, table_line, partition_text, tablet_line, retired_line};
 
 use crate::pieces::put_three;
-use crate::{PAGE_ROOM, Page, Printed};
+use crate::{DUMP_LINE_ROOM, Page, Printed};
 use lines::put_field;
 use metadata::{NodeDescriptor, PartitionSpec, RetiredReplicaLifetime, TableRow, TabletDescriptor};
 
 // The endpoints and the labels of a node: four calls each, alike in shape only. The fields have other types and rooms, so no loop over a list puts both.
 #[tactic(auto, unfolding(crate::specs::RowLines::endpoints))]
 fn put_endpoints(out: &mut Page, n: &NodeDescriptor)
-    requires { array_string_len out.old + 392 ≤ PAGE_ROOM }
+    requires { array_string_len out.old + 392 ≤ DUMP_LINE_ROOM }
     ensures text { out.new.bytes ≡ out.old.bytes ++ endpoints n.now }
     ensures short { array_string_len out.new ≤ array_string_len out.old + 392 }
 {
@@ -23,7 +23,7 @@ fn put_endpoints(out: &mut Page, n: &NodeDescriptor)
 
 #[tactic(auto, unfolding(crate::specs::RowLines::node_labels))]
 fn put_labels(out: &mut Page, n: &NodeDescriptor)
-    requires { array_string_len out.old + 200 ≤ PAGE_ROOM }
+    requires { array_string_len out.old + 200 ≤ DUMP_LINE_ROOM }
     ensures text { out.new.bytes ≡ out.old.bytes ++ node_labels n.now }
     ensures short { array_string_len out.new ≤ array_string_len out.old + 200 }
 {
@@ -50,7 +50,7 @@ impl Printed for NodeDescriptor {
 }
 
 fn put_completeness(out: &mut Page, complete: bool)
-    requires { array_string_len out.old + 13 ≤ PAGE_ROOM }
+    requires { array_string_len out.old + 13 ≤ DUMP_LINE_ROOM }
     ensures text { out.new.bytes ≡ out.old.bytes ++ completeness complete }
     ensures short { array_string_len out.new ≤ array_string_len out.old + 13 }
 {
@@ -64,7 +64,7 @@ fn put_completeness(out: &mut Page, complete: bool)
 // Whether a table is complete is not in its row.
 #[tactic(auto, unfolding(crate::specs::RowLines::table_line))]
 pub fn put_table(out: &mut Page, t: &TableRow, complete: bool)
-    requires { array_string_len out.old + 61 ≤ PAGE_ROOM }
+    requires { array_string_len out.old + 61 ≤ DUMP_LINE_ROOM }
     ensures text { out.new.bytes ≡ out.old.bytes ++ table_line complete t.now }
     ensures short { array_string_len out.new ≤ array_string_len out.old + 61 }
 {

@@ -6,14 +6,14 @@ ghost use Rattle.row_lines.specs.StoreLines.{name_line, marks_line, next_text, n
 
 use crate::pieces::put_three;
 use crate::placements::put_policy;
-use crate::{PAGE_ROOM, Page, Printed, put_each};
+use crate::{DUMP_LINE_ROOM, Page, Printed, put_each};
 use lines::put_field;
 use metadata::{InitialPlacement, MetadataAllocatorState, NodeId, OptionalName};
 
 // The cluster's name.
 #[tactic(auto, unfolding(crate::specs::StoreLines::name_line))]
 pub fn put_name(out: &mut Page, t: &OptionalName)
-    requires { array_string_len out.old + 103 ≤ PAGE_ROOM }
+    requires { array_string_len out.old + 103 ≤ DUMP_LINE_ROOM }
     ensures text { out.new.bytes ≡ out.old.bytes ++ name_line t.now }
     ensures short { array_string_len out.new ≤ array_string_len out.old + 103 }
 {
@@ -24,7 +24,7 @@ pub fn put_name(out: &mut Page, t: &OptionalName)
 
 #[tactic(auto, unfolding(crate::specs::StoreLines::marks_line))]
 pub fn put_marks(out: &mut Page, m: &MetadataAllocatorState)
-    requires { array_string_len out.old + 90 ≤ PAGE_ROOM }
+    requires { array_string_len out.old + 90 ≤ DUMP_LINE_ROOM }
     ensures text { out.new.bytes ≡ out.old.bytes ++ marks_line m.now }
     ensures short { array_string_len out.new ≤ array_string_len out.old + 90 }
 {
@@ -36,7 +36,7 @@ pub fn put_marks(out: &mut Page, m: &MetadataAllocatorState)
 
 #[tactic(auto, unfolding(crate::specs::StoreLines::next_text))]
 fn put_next_text(out: &mut Page, m: &MetadataAllocatorState)
-    requires { array_string_len out.old + 29 ≤ PAGE_ROOM }
+    requires { array_string_len out.old + 29 ≤ DUMP_LINE_ROOM }
     ensures text { out.new.bytes ≡ out.old.bytes ++ next_text m.now }
     ensures short { array_string_len out.new ≤ array_string_len out.old + 29 }
 {
@@ -49,7 +49,7 @@ fn put_next_text(out: &mut Page, m: &MetadataAllocatorState)
 
 #[tactic(auto, unfolding(crate::specs::StoreLines::next_line))]
 pub fn put_next(out: &mut Page, m: &MetadataAllocatorState)
-    requires { array_string_len out.old + 34 ≤ PAGE_ROOM }
+    requires { array_string_len out.old + 34 ≤ DUMP_LINE_ROOM }
     ensures text { out.new.bytes ≡ out.old.bytes ++ next_line m.now }
     ensures short { array_string_len out.new ≤ array_string_len out.old + 34 }
 {
@@ -70,7 +70,7 @@ fn picked(p: &InitialPlacement) -> &[NodeId]
 // The first choice.
 #[tactic(auto, unfolding(crate::specs::StoreLines::pick_line, crate::specs::StoreLines::picked_text))]
 pub fn put_pick(out: &mut Page, p: &InitialPlacement)
-    requires { array_string_len out.old + 251 ≤ PAGE_ROOM }
+    requires { array_string_len out.old + 251 ≤ DUMP_LINE_ROOM }
     ensures text { out.new.bytes ≡ out.old.bytes ++ pick_line p.now }
     ensures short { array_string_len out.new ≤ array_string_len out.old + 251 }
 {

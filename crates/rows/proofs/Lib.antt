@@ -1,1 +1,2 @@
 -- The laws that belong to no one function. Assumes nothing.
+pub mod Labels

@@ -1,15 +1,20 @@
 // Fields of a row, each read where it stands: who asks for a few of them does not read the whole record.
-ghost use Rattle.metadata.specs.Kinds.{label_of};
 ghost use Rattle.metadata.specs.Tables.{endpoints};
 ghost use Rattle.metadata.specs.Tablets.{is_hash, is_range, in_table};
-ghost use Rattle.rows.specs.Rows.{node_row, tablet_row, placement_row};
-ghost use Rattle.std.specs.Option.{option_map};
-ghost use Rattle.std.specs.Prelude.{◌≡◌, eqb};
-ghost use Rattle.text.specs.Texts.{text_of, present_text};
+ghost use Rattle.rows.specs.Rows.{node_row, label_place, tablet_row, placement_row};
+ghost use Rattle.std.specs.Prelude.{◌≡◌, eqb, map};
+ghost use Rattle.text.specs.Texts.{text_of};
 
 use crate::{NodeBytes, PlacementBytes, TabletBytes};
-use decode::{present_at, text_at, text_of};
-use metadata::{Domain, KEY_WIDTH, LABEL_WIDTH, Name, NodeId, RaftGroupId, TableId, TabletId};
+use decode::places::{
+    NODE_ADMIN, NODE_CLASS, NODE_LIFECYCLE, NODE_RACK, NODE_RAFT, NODE_REGION, NODE_SNAPSHOT,
+    NODE_SQL, NODE_ZONE, PLACEMENT_EPOCH, TABLET_BUCKET, TABLET_END, TABLET_GROUP, TABLET_KIND,
+    TABLET_START, TABLET_TABLE,
+};
+use decode::text_of;
+use metadata::{
+    Domain, KEY_WIDTH, LABEL_WIDTH, NAME_WIDTH, NodeId, RaftGroupId, TableId, TabletId,
+};
 use numbers::{number4, number8};
 
 // ---- of a node
@@ -20,39 +25,39 @@ pub fn node_id(row: &NodeBytes) -> NodeId
     NodeId(number8(row, 0))
 }
 
-// Raft, snapshot, sql, admin.
-pub fn endpoints(row: &NodeBytes) -> [Name; 4]
-    ensures { result ≡ endpoints (node_row row.now) }
+// Raft, snapshot, sql, admin: their bytes.
+pub fn endpoints(row: &NodeBytes) -> [&[u8]; 4]
+    ensures { map (λ e. e.now) result ≡ map text_of (endpoints (node_row row.now)) }
 {
     [
-        text_at(row, 8),
-        text_at(row, 57),
-        text_at(row, 106),
-        text_at(row, 155),
+        text_of::<NAME_WIDTH>(row, NODE_RAFT),
+        text_of::<NAME_WIDTH>(row, NODE_SNAPSHOT),
+        text_of::<NAME_WIDTH>(row, NODE_SQL),
+        text_of::<NAME_WIDTH>(row, NODE_ADMIN),
     ]
 }
 
-// The label that the node has for a domain.
-pub fn label_in(domain: Domain, row: &NodeBytes) -> Option<&[u8]>
-    ensures { option_map (λ t. t.now) result ≡ present_text (label_of domain (node_row row.now)) }
+// Where the label for a domain stands: who holds many rows against one label asks once.
+pub fn label_place(domain: Domain) -> usize
+    ensures { result ≡ label_place domain }
 {
     match domain {
-        Domain::Region => present_at::<LABEL_WIDTH>(row, 204),
-        Domain::Zone => present_at::<LABEL_WIDTH>(row, 229),
-        Domain::Rack => present_at::<LABEL_WIDTH>(row, 254),
+        Domain::Region => NODE_REGION,
+        Domain::Zone => NODE_ZONE,
+        Domain::Rack => NODE_RACK,
     }
 }
 
 pub fn storage_class(row: &NodeBytes) -> &[u8]
     ensures { result.now ≡ text_of (node_row row.now).storage_class }
 {
-    text_of::<LABEL_WIDTH>(row, 279)
+    text_of::<LABEL_WIDTH>(row, NODE_CLASS)
 }
 
 pub fn lifecycle(row: &NodeBytes) -> u8
     ensures { result ≡ (node_row row.now).lifecycle }
 {
-    row[304]
+    row[NODE_LIFECYCLE]
 }
 
 pub fn is_active(row: &NodeBytes) -> bool
@@ -72,45 +77,45 @@ pub fn tablet_id(row: &TabletBytes) -> TabletId
 pub fn group_of(row: &TabletBytes) -> RaftGroupId
     ensures { result ≡ (tablet_row row.now).raft_group_id }
 {
-    RaftGroupId(number8(row, 16))
+    RaftGroupId(number8(row, TABLET_GROUP))
 }
 
 // The tablet is one of the table's.
 pub fn in_table(k: TableId, row: &TabletBytes) -> bool
     ensures { result ≡ in_table k (tablet_row row.now) }
 {
-    number8(row, 8) == k.0
+    number8(row, TABLET_TABLE) == k.0
 }
 
 // The kind is a byte, since a command may bring any: 0 is Hash, 1 is Range, and a row that no command gives may hold another, which is neither.
 pub fn is_hash(row: &TabletBytes) -> bool
     ensures { result ≡ is_hash (tablet_row row.now) }
 {
-    row[32] == 0
+    row[TABLET_KIND] == 0
 }
 
 pub fn is_range(row: &TabletBytes) -> bool
     ensures { result ≡ is_range (tablet_row row.now) }
 {
-    row[32] == 1
+    row[TABLET_KIND] == 1
 }
 
 pub fn bucket(row: &TabletBytes) -> u32
     ensures { result ≡ (tablet_row row.now).partition.bucket }
 {
-    number4(row, 33)
+    number4(row, TABLET_BUCKET)
 }
 
 pub fn start_key(row: &TabletBytes) -> &[u8]
     ensures { result.now ≡ text_of (tablet_row row.now).partition.start_key }
 {
-    text_of::<KEY_WIDTH>(row, 41)
+    text_of::<KEY_WIDTH>(row, TABLET_START)
 }
 
 pub fn end_key(row: &TabletBytes) -> &[u8]
     ensures { result.now ≡ text_of (tablet_row row.now).partition.end_key }
 {
-    text_of::<KEY_WIDTH>(row, 74)
+    text_of::<KEY_WIDTH>(row, TABLET_END)
 }
 
 // ---- of a placement
@@ -118,5 +123,5 @@ pub fn end_key(row: &TabletBytes) -> &[u8]
 pub fn epoch_of(row: &PlacementBytes) -> u64
     ensures { result ≡ (placement_row row.now).configuration_epoch }
 {
-    number8(row, 8)
+    number8(row, PLACEMENT_EPOCH)
 }

@@ -7,11 +7,12 @@ ghost use Rattle.std.specs.Prelude.{◌≡◌};
 
 mod fields;
 
+use decode::places::{RETIREMENT_REPLICA, TABLET_GROUP};
 use decode::{node_at, placement_at, retirement_at, table_at, tablet_at};
 use encode::{NODE_BYTES, PLACEMENT_BYTES, RETIREMENT_BYTES, TABLE_BYTES, TABLET_BYTES};
 pub use fields::{
     bucket, end_key, endpoints, epoch_of, group_of, in_table, is_active, is_hash, is_range,
-    label_in, lifecycle, node_id, start_key, storage_class, tablet_id,
+    label_place, lifecycle, node_id, start_key, storage_class, tablet_id,
 };
 use metadata::{
     DesiredReplicaPlacement, NodeDescriptor, NodeId, RaftGroupId, ReplicaId, ReplicaKey,
@@ -168,11 +169,11 @@ impl Table for Groups {
     }
 
     fn has_key(row: &TabletBytes, key: RaftGroupId) -> bool {
-        number8(row, 16) == key.0
+        number8(row, TABLET_GROUP) == key.0
     }
 
     fn is_behind(row: &TabletBytes, key: RaftGroupId) -> bool {
-        key.0 < number8(row, 16)
+        key.0 < number8(row, TABLET_GROUP)
     }
 }
 
@@ -232,7 +233,9 @@ impl Table for Retirements {
     }
 
     fn has_key(row: &RetirementBytes, key: ReplicaKey) -> bool {
-        number8(row, 0) == key.raft_group_id.0 && number8(row, 8) == key.replica_id.0
+        // A group has many rows: the number tells most of them apart.
+        number8(row, RETIREMENT_REPLICA) == key.replica_id.0
+            && number8(row, 0) == key.raft_group_id.0
     }
 
     fn is_behind(row: &RetirementBytes, key: ReplicaKey) -> bool {

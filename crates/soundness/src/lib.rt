@@ -19,6 +19,10 @@ ghost use Rattle.tables.specs.Rows.{tidy};
 ghost use Rattle.text.specs.Texts.{fits, optional_fits};
 
 use admission::no_host_twice;
+use decode::places::{
+    NODE_ADMIN, NODE_CLASS, NODE_RACK, NODE_RAFT, NODE_REGION, NODE_SNAPSHOT, NODE_SQL, NODE_ZONE,
+    PLACEMENT_CLASS, TABLET_END, TABLET_START,
+};
 use encode::{NODE_BYTES, PLACEMENT_BYTES, RETIREMENT_BYTES, TABLE_BYTES, TABLET_BYTES};
 use layout::{MARKS, NODES, PLACEMENTS, RETIREMENTS, STORE_BYTES, TABLETS};
 use metadata::{
@@ -30,7 +34,7 @@ use rows::{
     NodeBytes, Nodes, PlacementBytes, Placements, RetirementBytes, Retirements, TableBytes, Tables,
     TabletBytes, Tablets, group_of, tablet_id,
 };
-use tables::{Table, all, is_clear, is_table, is_tidy};
+use tables::{Table, all, is_table, is_tidy, words_clear};
 
 // ---- a text where it stands: its length within the width, zeros behind it
 
@@ -40,7 +44,7 @@ fn text_fits<const N: usize>(row: &[u8], at: usize) -> bool
     ensures { result ≡ fits N (text_at {n = N} row.now at).len (text_at {n = N} row.now at).bytes }
 {
     let len = row[at] as usize;
-    len <= N && is_clear(&row[at + 1 + len..at + 1 + N])
+    len <= N && words_clear(&row[at + 1 + len..at + 1 + N])
 }
 
 // Length 255 means absent.
@@ -53,7 +57,7 @@ fn optional_fits(row: &[u8], at: usize) -> bool
     ensures { result ≡ optional_fits (optional_text_at {n = label_width} row.now at) }
 {
     if row[at] == ABSENT {
-        return is_clear(&row[at + 1..at + 1 + LABEL_WIDTH]);
+        return words_clear(&row[at + 1..at + 1 + LABEL_WIDTH]);
     }
     text_fits::<LABEL_WIDTH>(row, at)
 }
@@ -63,20 +67,20 @@ fn optional_fits(row: &[u8], at: usize) -> bool
 fn endpoints_fit(row: &NodeBytes) -> bool
     ensures { result ≡ every name_fits (endpoints (node_row row.now)) }
 {
-    text_fits::<NAME_WIDTH>(row, 8)
-        && text_fits::<NAME_WIDTH>(row, 57)
-        && text_fits::<NAME_WIDTH>(row, 106)
-        && text_fits::<NAME_WIDTH>(row, 155)
+    text_fits::<NAME_WIDTH>(row, NODE_RAFT)
+        && text_fits::<NAME_WIDTH>(row, NODE_SNAPSHOT)
+        && text_fits::<NAME_WIDTH>(row, NODE_SQL)
+        && text_fits::<NAME_WIDTH>(row, NODE_ADMIN)
 }
 
 // Region, zone, rack, class.
 fn labels_fit(row: &NodeBytes) -> bool
     ensures { result ≡ all_of (optional_fits (node_row row.now).region ∷ optional_fits (node_row row.now).zone ∷ optional_fits (node_row row.now).rack ∷ label_fits (node_row row.now).storage_class ∷ []) }
 {
-    optional_fits(row, 204)
-        && optional_fits(row, 229)
-        && optional_fits(row, 254)
-        && text_fits::<LABEL_WIDTH>(row, 279)
+    optional_fits(row, NODE_REGION)
+        && optional_fits(row, NODE_ZONE)
+        && optional_fits(row, NODE_RACK)
+        && text_fits::<LABEL_WIDTH>(row, NODE_CLASS)
 }
 
 pub fn sound_node(row: &NodeBytes) -> bool
@@ -89,7 +93,7 @@ pub fn sound_node(row: &NodeBytes) -> bool
 pub fn sound_tablet(row: &TabletBytes) -> bool
     ensures { result ≡ sound_tablet (tablet_row row.now) }
 {
-    text_fits::<KEY_WIDTH>(row, 41) && text_fits::<KEY_WIDTH>(row, 74)
+    text_fits::<KEY_WIDTH>(row, TABLET_START) && text_fits::<KEY_WIDTH>(row, TABLET_END)
 }
 
 #[tactic(auto, unfolding(laws::specs::Tests::all_of, crate::specs::Counts::replicas_sound))]
@@ -117,7 +121,7 @@ fn numbers_sound(p: &DesiredReplicaPlacement) -> bool
 pub fn sound_placement(row: &PlacementBytes) -> bool
     ensures { result ≡ sound_placement (placement_row row.now) }
 {
-    numbers_sound(&Placements::read(row)) && optional_fits(row, 152)
+    numbers_sound(&Placements::read(row)) && optional_fits(row, PLACEMENT_CLASS)
 }
 
 // The desired copies of a placement lie no higher than the mark.
@@ -155,7 +159,7 @@ fn placements_sound(placements: &[PlacementBytes]) -> bool
 
 // ---- the marks: no id lies above its mark
 
-// A function each: a generic one would be told where the id stands, and be no shorter.
+// A function each: a generic one would be given where the id stands, and be no shorter.
 fn tables_below(tables: &[TableBytes], mark: u64) -> bool
     ensures { result ≡ every (λ t. leb t.table_id.0 mark) (table_rows tables.now) }
 {

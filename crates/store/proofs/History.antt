@@ -8,8 +8,9 @@ use Rattle.layout.specs.Places.{store_length}
 use Rattle.metadata.proofs.Theorem.{history}
 use Rattle.metadata.specs.Answers.{is_applied}
 use Rattle.metadata.specs.Claims.{Claims}
-use Rattle.metadata.specs.History.{begun}
-use Rattle.metadata.specs.Model.{StoreRows, Outcome, decide, step, run, answers}
+use Rattle.metadata.specs.History.{initial_history}
+use Rattle.metadata.specs.Model.{StoreRows, Outcome, decide, step}
+use Rattle.metadata.specs.Run.{run, answers}
 use Rattle.metadata.specs.Opening.{opening}
 use Rattle.metadata.specs.declared.Answer.{Answer}
 use Rattle.metadata.specs.declared.Answer.TheVariants as A
@@ -82,16 +83,16 @@ calls_run {b} e (one {c = c} {a = a} {cs = cs} {rs = rs} h k) =
 
 -- demand 3 for a store that lives between calls: from every accepted opening, whatever the calls
 pub calls_history : (tables : List TableRow) (group : ℕ) {b b' : List ℕ} {cs : List Command} {rs : List Answer} → is_applied (opening tables group).answer ≡ true →
-    Opened (opening tables group) (opening tables group).answer b → Calls b cs rs b' → Claims (begun tables group) cs rs (store_of b')
+    Opened (opening tables group) (opening tables group).answer b → Calls b cs rs b' → Claims (initial_history tables group) cs rs (store_of b')
 calls_history tables group {b} {b'} {cs} {rs} e o k =
     let r = calls_run o.sounds k in
-    subst (λ (s : StoreRows). Claims (begun tables group) cs rs s) (sym (r.rows ∙ ap (λ (s : StoreRows). run s cs) o.rows))
-    (subst (λ (x : List Answer). Claims (begun tables group) cs x (run (opening tables group).rows cs)) (sym (r.answered ∙ ap (λ (s : StoreRows). answers s cs) o.rows))
+    subst (λ (s : StoreRows). Claims (initial_history tables group) cs rs s) (sym (r.rows ∙ ap (λ (s : StoreRows). run s cs) o.rows))
+    (subst (λ (x : List Answer). Claims (initial_history tables group) cs x (run (opening tables group).rows cs)) (sym (r.answered ∙ ap (λ (s : StoreRows). answers s cs) o.rows))
     (history tables group cs e))
 
 -- and from an opening in bytes
 pub opened_history : (l : List ℕ) {b₀ b b' : List ℕ} {r : Result Answer Fault} {cs : List Command} {rs : List Answer} → OpenOf b₀ l r b → eqb (length b₀) store_length ≡ true →
-    is_applied (open_tape l).answer ≡ true → Calls b cs rs b' → Claims (begun (tables_of l) (group_of l)) cs rs (store_of b')
+    is_applied (open_tape l).answer ≡ true → Calls b cs rs b' → Claims (initial_history (tables_of l) (group_of l)) cs rs (store_of b')
 opened_history l {b = b} h f e k =
     let q : opening (tables_of l) (group_of l) ≡ open_tape l = accepted l e in
     calls_history (tables_of l) (group_of l) (ap (λ (o : Outcome). is_applied o.answer) q ∙ e)

@@ -4,7 +4,7 @@ use Rattle.answer_numbers.specs.Numbers.{numbers}
 use Rattle.laws.specs.Bytes.{byte_at}
 use Rattle.layout.specs.Layout.{store_of, sound, Opened}
 use Rattle.layout.specs.Places.{store_length}
-use Rattle.metadata.specs.Model.{run}
+use Rattle.metadata.specs.Run.{run}
 use Rattle.metadata.specs.Rooms.{table_room}
 use Rattle.metadata.specs.declared.Answer.{Answer}
 use Rattle.metadata.specs.declared.Answer.TheVariants as A

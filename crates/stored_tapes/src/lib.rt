@@ -1,32 +1,52 @@
 #![tactic(auto)]
 
-// Stored tapes replayed, whichever way the commands take. Standard input has for each tape the lengths of its name and of its bytes, eight bytes each,
+// Stored tapes replayed, whichever way the commands take. The input has for each tape the lengths of its name and of its bytes, eight bytes each,
 // little-endian, then both; for each its name is printed, and what the replay prints. The expected output is the oracle's (oracle/README.md).
+ghost use Rattle.printing.specs.Sent.{Sent};
+ghost use Rattle.std.specs.Io.KnownBytes.{Appends, Consumes, IsAtEnd};
+ghost use Rattle.std.specs.Prelude.{◌≡◌, ◌++◌, length, IfOk, min};
+ghost use Rattle.stored_tapes.specs.AnswerText.{answer_text};
+ghost use Rattle.stored_tapes.specs.Replays.{replay_text};
+ghost use Rattle.stored_tapes.specs.StoredTapes.{name_line, HeadRead, TapeReplayed, Replayed};
+
 use arrayvec::ArrayString;
 use lines::{LINE_ROOM, put_line};
 use metadata::Reported;
+use numbers::number8;
 use printing::emit;
 use std::io;
-use std::io::Read;
-use std::rt::{Stdin, Stdout};
+use std::io::{ErrorKind, Read, Write};
 
-// Bytes of a name and of a tape.
+// Bytes of a head, of a name and of a tape.
+const HEAD: usize = 16;
+
 const NAME_ROOM: usize = 4096;
 
 const TAPE_ROOM: usize = 65536;
 
 // A way that the commands of a tape take.
 pub trait Replay {
-    // A tape's lines, and the final tables and marks.
-    fn replay(out: &mut Stdout, tape: &[u8]) -> io::Result<()>;
+    // A tape's lines, and the final tables and marks: the same whichever way, and all of them, or an error.
+    fn replay<W: Write>(out: &mut W, tape: &[u8]) -> io::Result<()>
+        ensures { IfOk result (λ _. Appends (W.contents out.old) (W.contents out.new) (replay_text tape.now)) };
+}
+
+// An answer's number as a byte. One above 255, which no answer has, reads as 255.
+fn in_a_byte(n: u64) -> u8
+    ensures { result ≡ min n 255 }
+{
+    u8::try_from(n).unwrap_or(u8::MAX)
 }
 
 // The line of the answer whose four numbers these are, by the function that writes the lines of the program.
-pub fn print_answer(to: &mut Stdout, numbers: &[u64], line: u64) -> io::Result<()> {
+#[tactic(auto, using(crate::proofs::Answering::answering))]
+pub fn print_answer<W: Write>(to: &mut W, numbers: &[u64], line: u64) -> io::Result<()>
+    ensures { Sent (W.contents to.old) (W.contents to.new) (answer_text line numbers.now) result }
+{
     let [number, a, b, c] = numbers else {
         return Ok(());
     };
-    let number = u8::try_from(*number).unwrap_or(u8::MAX);
+    let number = in_a_byte(*number);
     let mut text = ArrayString::<LINE_ROOM>::new();
     put_line(
         &mut text,
@@ -39,52 +59,73 @@ pub fn print_answer(to: &mut Stdout, numbers: &[u64], line: u64) -> io::Result<(
     emit(to, text.as_bytes())
 }
 
-// The next name on standard input, on a line of its own: any bytes, so no `str` and no `Display`.
-fn print_name(input: &mut Stdin, out: &mut Stdout, size: usize) -> io::Result<()> {
-    let mut buf = [0u8; NAME_ROOM];
-    if size <= NAME_ROOM {
-        let name = &mut buf[..size];
-        input.read_exact(name)?;
-        emit(out, b"tape ")?;
-        emit(out, name)?;
-        emit(out, b"\n")?;
+// The head of the next stored tape; none where the input ended before it.
+fn next_head<R: Read>(input: &mut R) -> io::Result<Option<[u8; HEAD]>>
+    ensures { IfOk result (HeadRead (R.remaining input.old) (R.remaining input.new)) }
+{
+    let mut head = [0u8; HEAD];
+    let got = input.read(&mut head)?;
+    if got == 0 {
+        return Ok(None);
     }
-    Ok(())
+    input.read_exact(&mut head[got..])?;
+    Ok(Some(head))
 }
 
-// The next tape on standard input, and what it gives.
-fn replay_next<R: Replay>(input: &mut Stdin, out: &mut Stdout, size: usize) -> io::Result<()> {
-    let mut buf = [0u8; TAPE_ROOM];
-    if size <= TAPE_ROOM {
-        let tape = &mut buf[..size];
-        input.read_exact(tape)?;
-        R::replay(out, tape)?;
-    }
-    Ok(())
+// A name and the tape behind it, as long as they are lent.
+#[tactic(auto, using(crate::proofs::Reading::both_read))]
+fn read_both<R: Read>(input: &mut R, name: &mut [u8], tape: &mut [u8]) -> io::Result<()>
+    ensures read { IfOk result (λ _. Consumes (R.remaining input.old) (R.remaining input.new) (name.new ++ tape.new)) }
+    ensures name_length { length name.new ≡ length name.old }
+    ensures tape_length { length tape.new ≡ length tape.old }
+{
+    input.read_exact(name)?;
+    input.read_exact(tape)
 }
 
-// The next length on standard input; none past its end, and none that no tape has.
-fn next_size(input: &mut Stdin) -> Option<usize> {
-    let mut head = [0u8; 8];
-    input.read_exact(&mut head).ok()?;
-    let size = usize::from_le_bytes(head);
-    if TAPE_ROOM < size {
-        return None;
-    }
-    Some(size)
+// A name on a line of its own: any bytes, so no `str` and no `Display`.
+fn print_name<W: Write>(out: &mut W, name: &[u8]) -> io::Result<()>
+    ensures { IfOk result (λ _. Appends (W.contents out.old) (W.contents out.new) (name_line name.now)) }
+{
+    emit(out, b"tape ")?;
+    emit(out, name)?;
+    emit(out, b"\n")
 }
 
+// The name and the tape behind a head, and what the tape gives. Both are read before anything is printed of them.
+fn replay_next<P: Replay, R: Read, W: Write>(
+    input: &mut R,
+    out: &mut W,
+    head: &[u8; HEAD],
+) -> io::Result<()>
+    ensures { IfOk result (λ _. TapeReplayed head.now (R.remaining input.old) (R.remaining input.new) (W.contents out.old) (W.contents out.new)) }
+{
+    let name_size = number8(head, 0) as usize;
+    let tape_size = number8(head, 8) as usize;
+    if NAME_ROOM < name_size || TAPE_ROOM < tape_size {
+        return Err(io::Error::from(ErrorKind::InvalidData));
+    }
+    let mut names = [0u8; NAME_ROOM];
+    let (name, _) = names.split_at_mut(name_size);
+    let mut tapes = [0u8; TAPE_ROOM];
+    let (tape, _) = tapes.split_at_mut(tape_size);
+    read_both(input, name, tape)?;
+    print_name(out, name)?;
+    P::replay(out, tape)
+}
+
+// Every stored tape of an input, to its end. One that is cut short, or longer than there is room for, is an error, and so is a read or a write that fails.
 // The loop has more turns than any input uses up: a proved loop has to end.
-pub fn replay_all<R: Replay>(input: &mut Stdin, out: &mut Stdout) -> io::Result<()> {
+#[tactic(auto, using(crate::proofs::Reading::reading))]
+pub fn replay_all<P: Replay, R: Read, W: Write>(input: &mut R, out: &mut W) -> io::Result<()>
+    ensures replayed { IfOk result (λ _. Replayed (R.remaining input.old) (R.remaining input.new) (W.contents out.old) (W.contents out.new)) }
+    ensures whole { IfOk result (λ _. IsAtEnd (R.remaining input.new)) }
+{
     for _ in 0..u64::MAX {
-        let Some(name) = next_size(input) else {
+        let Some(head) = next_head(input)? else {
             return Ok(());
         };
-        let Some(size) = next_size(input) else {
-            return Ok(());
-        };
-        print_name(input, out, name)?;
-        replay_next::<R>(input, out, size)?;
+        replay_next::<P, R, W>(input, out, &head)?;
     }
-    Ok(())
+    Err(io::Error::from(ErrorKind::TimedOut))
 }

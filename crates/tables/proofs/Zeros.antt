@@ -7,10 +7,10 @@ use Rattle.std.proofs.Math.Nat.{suc-mul, mul-le-mul_right}
 use Rattle.laws.specs.Lists.{All}
 use Rattle.laws.proofs.ListLaws.{never, all_map, every-all, all-every}
 use Rattle.std.proofs.lemmas.List.{take-append-drop, length-take-le, length-drop, drop-drop, take_rest}
-use Rattle.laws.specs.Bytes.{is_zero, number_at}
+use Rattle.laws.specs.Bytes.{is_zero, little, number_at}
 use Rattle.laws.specs.Lists.{every}
 use Rattle.laws.specs.Tests.{all_of}
-use Rattle.tables.specs.Rows.{zero_word, tidy}
+use Rattle.tables.specs.Rows.{zero_word, zero_block, tidy}
 
 -- a word is zero exactly where its bytes are
 zeros_of : (w : List ℕ) → every is_zero w ≡ true → All (λ (x : ℕ). x ≡ 0) w
@@ -46,20 +46,100 @@ every_append : (l m : List ℕ) → every is_zero (l ++ m) ≡ (every is_zero l 
 every_append [] m = refl
 every_append (x ∷ l) m = ap (λ (t : Bool). is_zero x && t) (every_append l m) ∙ sym (and_assoc (is_zero x) (every is_zero l) (every is_zero m))
 
-words_are : (n : ℕ) (l : List ℕ) → n * 8 ≤ length l → (every zero_word (first_chunks 8 n l) && every is_zero (drop (n * 8) l)) ≡ every is_zero l
-words_are zero l h = refl
-words_are (suc n) l h =
-    let d : length (drop 8 l) ≡ length l - 8 = length-drop 8 l in
-    let k : length (take 8 l) ≡ 8 = length-take-le 8 l (omega (arith, suc-mul n 8)) in
-    let m : drop (suc n * 8) l ≡ drop (n * 8) (drop 8 l) = sym (drop-drop (n * 8) 8 l ∙ ap (λ (i : ℕ). drop i l) (omega (arith, suc-mul n 8))) in
-    and_assoc (zero_word (take 8 l)) (every zero_word (first_chunks 8 n (drop 8 l))) (every is_zero (drop (suc n * 8) l))
-    ∙ ap₂ (λ (t u : Bool). t && u) (word_is (take 8 l) k)
-    (ap (λ (x : List ℕ). every zero_word (first_chunks 8 n (drop 8 l)) && every is_zero x) m ∙ words_are n (drop 8 l) (omega (arith, d, suc-mul n 8)))
-    ∙ sym (every_append (take 8 l) (drop 8 l))
-    ∙ ap (every is_zero) (take-append-drop 8 l)
+-- chunks of one width, and what is left behind them
+module _ (w : ℕ) (test : List ℕ → Bool) (is : (c : List ℕ) → length c ≡ w → test c ≡ every is_zero c) where
+  chunks_are : (n : ℕ) (l : List ℕ) → n * w ≤ length l → (every test (first_chunks w n l) && every is_zero (drop (n * w) l)) ≡ every is_zero l
+  chunks_are zero l h = ap (λ (i : ℕ). every is_zero (drop i l)) none
+    where
+      none : 0 * w ≡ 0
+      none = omega arith
+  chunks_are (suc n) l h =
+      let d : length (drop w l) ≡ length l - w = length-drop w l in
+      let k : length (take w l) ≡ w = length-take-le w l (omega (arith, suc-mul n w)) in
+      let m : drop (suc n * w) l ≡ drop (n * w) (drop w l) = sym (drop-drop (n * w) w l ∙ ap (λ (i : ℕ). drop i l) (omega (arith, suc-mul n w))) in
+      and_assoc (test (take w l)) (every test (first_chunks w n (drop w l))) (every is_zero (drop (suc n * w) l))
+      ∙ ap₂ (λ (t u : Bool). t && u) (is (take w l) k)
+      (ap (λ (x : List ℕ). every test (first_chunks w n (drop w l)) && every is_zero x) m ∙ chunks_are n (drop w l) (omega (arith, d, suc-mul n w)))
+      ∙ sym (every_append (take w l) (drop w l))
+      ∙ ap (every is_zero) (take-append-drop w l)
 
-pub in_words : (t u : Bool) (l rest : List ℕ) (words : List (List ℕ)) → words ≡ first_chunks 8 (length l / 8) l → rest ≡ drop (length l / 8 * 8) l → t ≡ every zero_word words → u ≡ every is_zero rest → (t && u) ≡ every is_zero l
-in_words t u l rest words e f g h = rw (g, h, e, f) (words_are (length l / 8) l (omega arith))
+-- the number of bytes is zero exactly where they are
+sum_go : (b n : ℕ) (t u v : Bool) → eqb (b + 256 * n) 0 ≡ t → eqb b 0 ≡ u → eqb n 0 ≡ v → t ≡ (u && v)
+sum_go b n true true true e f g = refl
+sum_go b n false true false e f g = refl
+sum_go b n false false v e f g = refl
+sum_go b n true true false e f g = absurd (eqb-false n 0 g (omega (arith, eqb-true _ 0 e)))
+sum_go b n true false v e f g = absurd (eqb-false b 0 f (omega (arith, eqb-true _ 0 e)))
+sum_go b n false true true e f g = absurd (eqb-false _ 0 e (omega (arith, eqb-true b 0 f, eqb-true n 0 g)))
+
+little_zero : (l : List ℕ) → eqb (little l) 0 ≡ every is_zero l
+unfolding little
+little_zero [] = refl
+little_zero (b ∷ l) = sum_go b (little l) _ _ _ refl refl refl ∙ ap (λ (t : Bool). is_zero b && t) (little_zero l)
+
+-- a block is zero exactly where its bytes are
+block_is : (b : List ℕ) → length b ≡ 32 → zero_block b ≡ every is_zero b
+unfolding all_of
+block_is b e =
+    let f : (n : ℕ) → eqb (number_at 8 b n) 0 ≡ every is_zero (take 8 (drop n b)) = λ n. little_zero (take 8 (drop n b)) in
+    let s : (n : ℕ) → every is_zero (drop n b) ≡ (every is_zero (take 8 (drop n b)) && every is_zero (drop (n + 8) b)) =
+    λ n. ap (every is_zero) (sym (take-append-drop 8 (drop n b))) ∙ every_append (take 8 (drop n b)) (drop 8 (drop n b)) ∙ ap (λ (x : List ℕ). every is_zero (take 8 (drop n b)) && every is_zero x) (drop-drop 8 n b) in
+    let z : every is_zero (drop 32 b) ≡ true = ap (every is_zero) (drop_all 32 b (omega (arith, e))) in
+    rw (f 0, f 8, f 16, f 24) (four _ _ _ _ _ _ _ _ _ (s 0) (s 8) (s 16) (s 24) z)
+  where
+    drop_all : (n : ℕ) (l : List ℕ) → length l ≤ n → drop n l ≡ []
+    drop_all zero [] h = refl
+    drop_all (suc n) [] h = refl
+    drop_all zero (x ∷ l) h = absurd (omega (arith, h))
+    drop_all (suc n) (x ∷ l) h = drop_all n l (omega (arith, h))
+
+    four : (p q r s t u v w z : Bool) → t ≡ (p && u) → u ≡ (q && v) → v ≡ (r && w) → w ≡ (s && z) → z ≡ true → (((p && q) && r) && s) ≡ t
+    four p q r s t u v w z a b c d e = rw (a, b, c, d, e) (go p q r s)
+      where
+        go : (p q r s : Bool) → (((p && q) && r) && s) ≡ (p && (q && (r && (s && true))))
+        go true true true true = refl
+        go true true true false = refl
+        go true true false s = refl
+        go true false r s = refl
+        go false q r s = refl
+
+and_false : (w : Bool) → (w && false) ≡ false
+and_false true = refl
+and_false false = refl
+
+last_go : (w l r p q e : Bool) → e ≡ (w && r) → e ≡ (p && l) → l ≡ (q && r) → (w && l) ≡ e
+last_go w false r p q e a b c = and_false w ∙ sym (b ∙ and_false p)
+last_go w true true p q e a b c = sym a
+last_go w true false p q e a b c = absurd (never _ (sym c) (and_false q))
+
+take_all : (m : List ℕ) → take (length m) m ≡ m
+take_all [] = refl
+take_all (x ∷ m) = ap (λ (r : List ℕ). x ∷ r) (take_all m)
+
+-- there is a word
+pub a_word : (l : List ℕ) (words : List (List ℕ)) (t : Bool) → length words ≡ length l / 8 → t ≡ eqb (length words) 0 → t ≡ false → 8 ≤ length l
+a_word l words t e f g = omega (arith, e, eqb-false (length words) 0 (sym f ∙ g))
+
+-- all words are zero, and the last eight bytes
+pub in_words : (t : Bool) (l : List ℕ) (words : List (List ℕ)) → words ≡ first_chunks 8 (length l / 8) l → 8 ≤ length l → t ≡ every zero_word words →
+    (t && eqb (number_at 8 l (length l - 8)) 0) ≡ every is_zero l
+in_words t l words e h g =
+    let n : ℕ = length l / 8 in
+    let k : ℕ = length l - 8 in
+    let a : (every zero_word (first_chunks 8 n l) && every is_zero (drop (n * 8) l)) ≡ every is_zero l = chunks_are 8 zero_word word_is n l (omega arith) in
+    let d : length (drop k l) ≡ length l - k = length-drop k l in
+    let g8 : 8 ≡ length (drop k l) = omega (arith, d) in
+    let f : eqb (number_at 8 l k) 0 ≡ every is_zero (drop k l) = little_zero (take 8 (drop k l)) ∙ ap (every is_zero) (ap (λ (i : ℕ). take i (drop k l)) g8 ∙ take_all (drop k l)) in
+    let c : every is_zero l ≡ (every is_zero (take k l) && every is_zero (drop k l)) = ap (every is_zero) (sym (take-append-drop k l)) ∙ every_append (take k l) (drop k l) in
+    let back : k + (n * 8 - k) ≡ n * 8 = omega arith in
+    let m : drop (n * 8 - k) (drop k l) ≡ drop (n * 8) l = drop-drop (n * 8 - k) k l ∙ ap (λ (i : ℕ). drop i l) back in
+    let q : every is_zero (drop k l) ≡ (every is_zero (take (n * 8 - k) (drop k l)) && every is_zero (drop (n * 8) l)) =
+    ap (every is_zero) (sym (take-append-drop (n * 8 - k) (drop k l))) ∙ every_append (take (n * 8 - k) (drop k l)) (drop (n * 8 - k) (drop k l))
+    ∙ ap (λ (x : List ℕ). every is_zero (take (n * 8 - k) (drop k l)) && every is_zero x) m in
+    rw (g, e, f) (last_go _ _ _ _ _ _ (sym a) c q)
+
+pub in_blocks : (t u : Bool) (l rest : List ℕ) (blocks : List (List ℕ)) → blocks ≡ first_chunks 32 (length l / 32) l → rest ≡ drop (length l / 32 * 32) l → t ≡ every zero_block blocks → u ≡ every is_zero rest → (t && u) ≡ every is_zero l
+in_blocks t u l rest blocks e f g h = rw (g, h, e, f) (chunks_are 32 zero_block block_is (length l / 32) l (omega arith))
 
 -- ---- a table's tail
 

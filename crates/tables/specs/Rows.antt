@@ -50,3 +50,7 @@ pub record Replaced (w room at : ℕ) (row t t' : List ℕ) : Type 0 where
 -- eight bytes that are zeros, read as a number
 abbrev pub zero_word : List ℕ → Bool
 zero_word w = eqb (from_le_bytes w64 w) 0
+
+-- four words of zeros
+abbrev pub zero_block : List ℕ → Bool
+zero_block b = all_of (eqb (number_at 8 b 0) 0 ∷ eqb (number_at 8 b 8) 0 ∷ eqb (number_at 8 b 16) 0 ∷ eqb (number_at 8 b 24) 0 ∷ [])

@@ -3,12 +3,13 @@
 // Tables in bytes: the count of the rows in eight bytes, then the rows, each of one width, then zeros.
 ghost use Rattle.laws.specs.Bytes.{is_zero};
 ghost use Rattle.laws.specs.Lists.{every};
-ghost use Rattle.laws.specs.Keyed.{Keyed, before, through, has, row};
+ghost use Rattle.laws.specs.Keyed.{Keyed, before, has, row};
+ghost use Rattle.laws.specs.Through.{through};
 ghost use Rattle.laws.specs.Rows.{find_index, rising};
 ghost use Rattle.std.specs.Prelude.{◌≡◌, ◌&&◌, leb, ◌<◌, ◌≤◌, ◌+◌, ◌*◌, ◌++◌, Bool, List, false, true, length, map, ℕ, take, drop, MatchOption};
 ghost use Rattle.std.specs.Option.{unwrap_or};
 ghost use Rattle.std.specs.Simd.{first_chunks};
-ghost use Rattle.tables.specs.Rows.{zero_word, under, behind, rows_of, tidy, opened_for, Inserted, Replaced};
+ghost use Rattle.tables.specs.Rows.{zero_word, zero_block, under, behind, rows_of, tidy, opened_for, Inserted, Replaced};
 
 use numbers::{number8, put8};
 
@@ -169,13 +170,41 @@ fn all_zero_bytes(bytes: &[u8]) -> bool
     bytes.iter().all(|b| *b == 0)
 }
 
-// Zeros alone: eight bytes at a time, then those that are left.
-#[tactic(auto, using(crate::proofs::Zeros::in_words))]
+// Eight bytes at a time; those that are left are in the last eight.
+pub fn words_clear(bytes: &[u8]) -> bool
+    ensures { result ≡ every is_zero bytes.now }
+{
+    let (words, _) = bytes.as_chunks::<8>();
+    if words.is_empty() {
+        return all_zero_bytes(bytes);
+    }
+    all_zero_words(words) && number8(bytes, bytes.len() - 8) == 0
+}
+
+// Four words, looked at together.
+#[tactic(auto, unfolding(laws::specs::Tests::all_of))]
+fn is_zero_block(block: &[u8; 32]) -> bool
+    ensures { result ≡ zero_block block.now }
+{
+    (number8(block, 0) == 0)
+        & (number8(block, 8) == 0)
+        & (number8(block, 16) == 0)
+        & (number8(block, 24) == 0)
+}
+
+fn all_zero_blocks(blocks: &[[u8; 32]]) -> bool
+    ensures { result ≡ every zero_block blocks.now }
+{
+    blocks.iter().all(|b| is_zero_block(b))
+}
+
+// Zeros alone: 32 bytes at a time, then those that are left.
+#[tactic(auto, using(crate::proofs::Zeros::in_blocks))]
 pub fn is_clear(bytes: &[u8]) -> bool
     ensures { result ≡ every is_zero bytes.now }
 {
-    let (words, rest) = bytes.as_chunks::<8>();
-    all_zero_words(words) && all_zero_bytes(rest)
+    let (blocks, rest) = bytes.as_chunks::<32>();
+    all_zero_blocks(blocks) && words_clear(rest)
 }
 
 // The count is within the room, and zeros stand behind the rows in use.

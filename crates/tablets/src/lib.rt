@@ -1,4 +1,4 @@
-#![tactic(auto, unfolding(metadata::specs::Answers::refuse, metadata::specs::Answers::and_then))]
+#![tactic(auto, unfolding(metadata::specs::Answers::answer_if, metadata::specs::Answers::and_then))]
 
 // Tablets: what the creation of a tablet is answered, and whether a table is complete. The rows of both tables stand in bytes, as the store has them.
 ghost use Rattle.std.specs.Prelude.{◌≡◌, cond};
@@ -78,7 +78,7 @@ fn group_held(group: RaftGroupId, tablets: &[TabletBytes]) -> bool
 }
 
 // The checks of a Hash tablet. Each check is lent the tables that it reads and the tablet, one by one.
-#[tactic(auto, unfolding(metadata::specs::Tablets::judge_hash, metadata::specs::Answers::refuse, metadata::specs::Answers::and_then))]
+#[tactic(auto, unfolding(metadata::specs::Tablets::judge_hash, metadata::specs::Answers::answer_if, metadata::specs::Answers::and_then))]
 pub fn judge_hash(
     tables: &[TableBytes],
     tablets: &[TabletBytes],
@@ -142,7 +142,7 @@ fn judge_kind(
 }
 
 // The checks of a tablet whose id is not known yet.
-#[tactic(auto, unfolding(metadata::specs::Tablets::judge_new_tablet, metadata::specs::Answers::refuse, metadata::specs::Answers::and_then))]
+#[tactic(auto, unfolding(metadata::specs::Tablets::judge_new_tablet, metadata::specs::Answers::answer_if, metadata::specs::Answers::and_then))]
 pub fn judge_new_tablet(
     tables: &[TableBytes],
     tablets: &[TabletBytes],

@@ -4,8 +4,9 @@ use mathlib.Core.Path.{◌≡◌, sym, ◌∙◌, ap, subst}
 use mathlib.Core.Bool.{Bool, true, cond}
 use mathlib.Core.List.{List}
 use Rattle.metadata.specs.Answers.{is_applied}
-use Rattle.metadata.specs.Model.{Outcome, run, answers}
-use Rattle.metadata.specs.History.{begun}
+use Rattle.metadata.specs.Model.{Outcome}
+use Rattle.metadata.specs.Run.{run, answers}
+use Rattle.metadata.specs.History.{initial_history}
 use Rattle.metadata.specs.Claims.{Claims}
 use Rattle.metadata.proofs.Theorem.{history}
 use Rattle.tape.specs.declared.Ran.{Ran}
@@ -15,11 +16,11 @@ use Rattle.reading.specs.Reader.{read_from, tables_of, group_of, body_at, open_t
 
 -- of every tape whose opening is accepted: the final rows are what the history says of its commands and their answers
 pub tape_history : (l : List ℕ) → is_applied (open_tape l).answer ≡ true →
-    Claims (begun (tables_of l) (group_of l)) (read_from l (body_at l)).commands (answers (open_tape l).rows (read_from l (body_at l)).commands) (final_store l)
+    Claims (initial_history (tables_of l) (group_of l)) (read_from l (body_at l)).commands (answers (open_tape l).rows (read_from l (body_at l)).commands) (final_store l)
 unfolding final_store
 tape_history l e =
     rw e
-    (subst (λ (o : Outcome). Claims (begun (tables_of l) (group_of l)) (read_from l (body_at l)).commands (answers o.rows (read_from l (body_at l)).commands) (run o.rows (read_from l (body_at l)).commands))
+    (subst (λ (o : Outcome). Claims (initial_history (tables_of l) (group_of l)) (read_from l (body_at l)).commands (answers o.rows (read_from l (body_at l)).commands) (run o.rows (read_from l (body_at l)).commands))
     (accepted l e)
     (history (tables_of l) (group_of l) (read_from l (body_at l)).commands (subst (λ (o : Outcome). is_applied o.answer ≡ true) (sym (accepted l e)) e)))
 

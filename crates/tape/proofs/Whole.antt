@@ -10,7 +10,8 @@ use borrow.Author.Tests.{le-leb, lt-leb, le-ltb, lt-ltb}
 use lib.Dec.{ltb}
 use Rattle.layout.specs.Layout.{store_of, Opened}
 use Rattle.metadata.specs.Answers.{is_applied, reported}
-use Rattle.metadata.specs.Model.{StoreRows, run}
+use Rattle.metadata.specs.Model.{StoreRows}
+use Rattle.metadata.specs.Run.{run}
 use Rattle.metadata.specs.declared.Answer.{Answer}
 use Rattle.tape.specs.declared.Ran.{Ran}
 use Rattle.tape.specs.Tape.{outcome, final_store, RunOf, ran_out}

@@ -2,8 +2,9 @@
 use Rattle.std.specs.Prelude.{ℕ, ◌*◌, ◌≡◌, true, false, cond, List, [], ◌∷◌, ◌++◌, leb, ltb, length, drop}
 use Rattle.layout.specs.Layout.{store_of, sound}
 use Rattle.metadata.specs.Answers.{is_applied}
-use Rattle.metadata.specs.Model.{StoreRows, run, answers}
-use Rattle.metadata.specs.History.{begun}
+use Rattle.metadata.specs.Model.{StoreRows}
+use Rattle.metadata.specs.Run.{run, answers}
+use Rattle.metadata.specs.History.{initial_history}
 use Rattle.metadata.specs.Claims.{Claims}
 use Rattle.metadata.specs.declared.Answer.{Answer}
 use Rattle.reading.specs.Reader.{read_from, tape_answers, tables_of, group_of, body_at, open_tape}
@@ -33,4 +34,4 @@ ran_out l out = cond (leb (4 * length (outcome l)) (length out)) (numbers (outco
 abbrev pub TapeClaims : List ℕ → Ran → List ℕ → Type 0
 TapeClaims l r s =
     r.opened ≡ true → r.short ≡ false →
-    Claims (begun (tables_of l) (group_of l)) (read_from l (body_at l)).commands (answers (open_tape l).rows (read_from l (body_at l)).commands) (store_of s)
+    Claims (initial_history (tables_of l) (group_of l)) (read_from l (body_at l)).commands (answers (open_tape l).rows (read_from l (body_at l)).commands) (store_of s)

@@ -7,7 +7,8 @@ use lib.ListN.{length, drop, length-append, length-drop}
 use lib.Seq.{drop-drop}
 use Rattle.metadata.specs.Answers.{reported}
 use Rattle.metadata.specs.declared.Command.{Command}
-use Rattle.metadata.specs.Model.{StoreRows, step, run, answers}
+use Rattle.metadata.specs.Model.{StoreRows, step}
+use Rattle.metadata.specs.Run.{run, answers}
 use Rattle.metadata.specs.declared.Answer.{Answer}
 use Rattle.reading.specs.declared.Next.TheVariants as N
 use Rattle.answer_numbers.specs.Numbers.{numbers, written}

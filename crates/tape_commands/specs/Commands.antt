@@ -1,7 +1,7 @@
 -- The commands of a tape, one after the other. Assumes nothing.
 use Rattle.std.specs.Prelude.{ℕ, ◌*◌, ◌≡◌, true, List, ◌++◌, length, drop}
 use Rattle.layout.specs.Layout.{store_of, sound}
-use Rattle.metadata.specs.Model.{run}
+use Rattle.metadata.specs.Run.{run}
 use Rattle.reading.specs.Reader.{read_from, tape_answers}
 use Rattle.answer_numbers.specs.Numbers.{numbers}
 

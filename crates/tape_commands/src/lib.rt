@@ -7,8 +7,8 @@ ghost use Rattle.std.specs.Prelude.{◌≡◌, true, ◌*◌, ◌≤◌, length}
 ghost use Rattle.tape_commands.specs.Commands.{Done};
 
 use answer_numbers::write_answer;
-use metadata::{Answer, TapeFault};
-use reading::{Next, command_at, next_at};
+use metadata::{Answer, Command, TapeFault};
+use reading::{Next, next_at, read_command};
 use steps::step;
 
 // A walk over the tape as `reading::count_lines` has it, each command run and its answer written. Inner: `run` shows that the store is sound, and that there is room for every answer.
@@ -23,7 +23,9 @@ pub fn run_commands(store: &mut [u8], tape: &[u8], from: usize, out: &mut [u64])
     loop {
         match next_at(tape, at) {
             Next::Whole(b, next) => {
-                let answer = step(store, &command_at(b, tape, at + 1));
+                let mut command = Command::Picking;
+                read_command(b, tape, at + 1, &mut command);
+                let answer = step(store, &command);
                 write_answer(out, place, answer);
                 at = next;
                 place += 4;

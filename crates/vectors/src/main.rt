@@ -1,12 +1,16 @@
 #![tactic(auto)]
 
 // Stored tapes through the library's run of a whole tape.
+ghost use Rattle.std.specs.Io.KnownBytes.{Appends};
+ghost use Rattle.std.specs.Prelude.{◌*◌, ◌≤◌, length, IfOk};
+ghost use Rattle.stored_tapes.specs.Replays.{replay_text};
+ghost use Rattle.vectors.specs.Answers.{answers_text};
+
 use dump::dump_store;
 use layout::STORE_BYTES;
-use printing::emit;
 use std::io;
+use std::io::{ErrorKind, Write};
 use std::process::ExitCode;
-use std::rt::Stdout;
 use stored_tapes::{Replay, print_answer, replay_all};
 
 // Four for each answer.
@@ -14,11 +18,19 @@ const NUMBER_ROOM: usize = 4096;
 
 // The lines of the answers, of which there are `count` in the lent numbers; the first is line 0 where the opening was refused.
 // The count stands beside the list, since the list has a fixed room and the run says how many answers it wrote there.
-// `line` begins at `first` and is a u64, where `enumerate` would number from 0 on, in a usize.
-fn print_answers(out: &mut Stdout, numbers: &[u64], count: usize, first: u64) -> io::Result<()> {
+#[tactic(auto, using(crate::proofs::Printing::printing))]
+fn print_answers<W: Write>(out: &mut W, numbers: &[u64], count: usize, first: u64) -> io::Result<()>
+    requires { 4 * count ≤ length numbers.now }
+    ensures { IfOk result (λ _. Appends (W.contents out.old) (W.contents out.new) (answers_text first count numbers.now)) }
+{
+    let mut rest = numbers;
+    let mut left = count;
     let mut line = first;
-    for answer in numbers.chunks_exact(4).take(count) {
+    while 0 < left {
+        let (answer, behind) = rest.split_at(4);
         print_answer(out, answer, line)?;
+        rest = behind;
+        left -= 1;
         line = line.wrapping_add(1);
     }
     Ok(())
@@ -27,12 +39,12 @@ fn print_answers(out: &mut Stdout, numbers: &[u64], count: usize, first: u64) ->
 struct WholeTape;
 
 impl Replay for WholeTape {
-    fn replay(out: &mut Stdout, tape: &[u8]) -> io::Result<()> {
+    fn replay<W: Write>(out: &mut W, tape: &[u8]) -> io::Result<()> {
         let mut store = [0u8; STORE_BYTES];
         let mut numbers = [0u64; NUMBER_ROOM];
         let ran = tape::run(tape, &mut store, &mut numbers);
         if ran.short {
-            return emit(out, b"too many lines\n");
+            return Err(io::Error::from(ErrorKind::InvalidData));
         }
         print_answers(out, &numbers, ran.lines, u64::from(ran.opened))?;
         dump_store(out, &store)
@@ -40,7 +52,7 @@ impl Replay for WholeTape {
 }
 
 fn main(rt: HostRuntime) -> ExitCode {
-    match replay_all::<WholeTape>(&mut rt.stdin(), &mut rt.stdout()) {
+    match replay_all::<WholeTape, _, _>(&mut rt.stdin(), &mut rt.stdout()) {
         Ok(()) => ExitCode::SUCCESS,
         Err(_) => ExitCode::FAILURE,
     }

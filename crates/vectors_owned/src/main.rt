@@ -1,6 +1,11 @@
 #![tactic(auto)]
 
 // Stored tapes through the entry points by value, under the source's names.
+ghost use Rattle.layout.specs.Layout.{Entered, Opened};
+ghost use Rattle.reading.specs.Reader.{body_at, cut_opening, open_tape};
+ghost use Rattle.std.specs.Prelude.{◌≡◌, IfOk};
+ghost use Rattle.stored_tapes.specs.Replays.{AtOpening, LinesWritten};
+
 use decode::tables_at;
 use dump::dump_store;
 use metadata::{Answer, Command, TABLE_ROOM, TableId, TableRow, TapeFault};
@@ -11,11 +16,10 @@ use owned::{
     select_initial_placement,
 };
 use printing::print_line;
-use reading::{HEAD, Next, command_at, next_at};
+use reading::{HEAD, Next, body_at, next_at, read_command};
 use std::io;
+use std::io::Write;
 use std::process::ExitCode;
-use std::rt::Stdout;
-use store::opening_bytes;
 use stored_tapes::{Replay, replay_all};
 
 // One more than there is room for: what an opening with more tables is refused like.
@@ -24,21 +28,39 @@ const TOO_MANY: [TableRow; TABLE_ROOM + 1] = [TableRow {
     tablet_count: 0,
 }; TABLE_ROOM + 1];
 
+// An opening that is cut short leaves the store of a refused one.
+fn cut_opening() -> Answered
+    ensures { Opened cut_opening result.answer result.store.bytes }
+{
+    Answered {
+        answer: Answer::BadTape(TapeFault::Cut, 0),
+        store: open(&TOO_MANY, 0).store,
+    }
+}
+
 // The opening, whole or over the room.
-fn open_tape(tape: &[u8]) -> Answered {
+#[tactic(auto, unfolding(reading::specs::Reader::open_tape))]
+fn open_tape(tape: &[u8]) -> Answered
+    ensures { Opened (open_tape tape.now) result.answer result.store.bytes }
+{
     if tape.len() < HEAD {
-        return open(&TOO_MANY, 0);
+        return cut_opening();
     }
     let count = usize::from(tape[0]);
     let group = number8(tape, 1);
-    if TABLE_ROOM < count || tape.len() < HEAD + 12 * count {
+    if TABLE_ROOM < count {
         return open(&TOO_MANY, group);
+    }
+    if tape.len() < HEAD + 12 * count {
+        return cut_opening();
     }
     let tables = tables_at(tape, HEAD, count);
     open(&tables[..count], group)
 }
 
-fn enter(s: Store, c: &Command) -> Answered {
+fn enter(s: Store, c: &Command) -> Answered
+    ensures { Entered s.bytes c.now result.store.bytes result.answer }
+{
     match c {
         Command::Naming(t) => apply_cluster_initialized(s, *t),
         Command::Registering(n) => apply_register_node(s, *n),
@@ -50,18 +72,26 @@ fn enter(s: Store, c: &Command) -> Answered {
     }
 }
 
-#[tactic(auto, using(reading::proofs::Reading::wholes))]
 // Each command by its entry point; what is no whole command is answered as document 01 has it.
-fn enter_each(out: &mut Stdout, opened: Store, tape: &[u8], from: usize) -> io::Result<Store> {
+#[tactic(auto, using(reading::proofs::Reading::wholes, crate::proofs::Entering::entering))]
+fn enter_each<W: Write>(out: &mut W, opened: Store, tape: &[u8], from: usize) -> io::Result<Store>
+    requires opened { AtOpening tape.now opened.bytes }
+    requires from { from ≡ body_at tape.now }
+    ensures { IfOk result (λ left. LinesWritten tape.now left.bytes (W.contents out.old) (W.contents out.new)) }
+{
     let mut store = opened;
     let mut at = from;
-    for line in 1..u64::MAX {
+    let mut line: u64 = 1;
+    loop {
         match next_at(tape, at) {
             Next::Whole(b, next) => {
-                let answered = enter(store, &command_at(b, tape, at + 1));
+                let mut command = Command::Picking;
+                read_command(b, tape, at + 1, &mut command);
+                let answered = enter(store, &command);
                 print_line(out, line, answered.answer)?;
                 store = answered.store;
                 at = next;
+                line = line.wrapping_add(1);
             }
             Next::Unknown(b) => {
                 print_line(out, line, Answer::BadTape(TapeFault::Unknown, b))?;
@@ -74,30 +104,24 @@ fn enter_each(out: &mut Stdout, opened: Store, tape: &[u8], from: usize) -> io::
             Next::End => return Ok(store),
         }
     }
-    Ok(store)
 }
 
 struct ByValue;
 
 impl Replay for ByValue {
-    fn replay(out: &mut Stdout, tape: &[u8]) -> io::Result<()> {
+    fn replay<W: Write>(out: &mut W, tape: &[u8]) -> io::Result<()> {
         let Answered { answer, store } = open_tape(tape);
-        let from = opening_bytes(tape);
-        if from == 0 {
-            print_line(out, 0, Answer::BadTape(TapeFault::Cut, 0))?;
-            return dump_store(out, &store.bytes);
-        }
         if !answer.is_applied() {
             print_line(out, 0, answer)?;
             return dump_store(out, &store.bytes);
         }
-        let left = enter_each(out, store, tape, from)?;
+        let left = enter_each(out, store, tape, body_at(tape))?;
         dump_store(out, &left.bytes)
     }
 }
 
 fn main(rt: HostRuntime) -> ExitCode {
-    match replay_all::<ByValue>(&mut rt.stdin(), &mut rt.stdout()) {
+    match replay_all::<ByValue, _, _>(&mut rt.stdin(), &mut rt.stdout()) {
         Ok(()) => ExitCode::SUCCESS,
         Err(_) => ExitCode::FAILURE,
     }

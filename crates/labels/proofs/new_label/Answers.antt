@@ -1,10 +1,7 @@
--- Open without them: both values. What `label_in` ensures speaks of a choice, which is Some here.
-use Rattle.std.proofs.Common.{rules}
-use Rattle.labels.proofs.Lent.{present_adds, absent_adds}
+-- Open without it: that what stands at the place is the label for the domain.
+use Rattle.std.proofs.Common.{◌∙◌}
+use Rattle.labels.proofs.Places.{new_there}
 use Rattle.labels.proofs.new_label.Goals as goal
 
-pub returns-in-Some-clause-value : goal.returns-in-Some-clause-value
-returns-in-Some-clause-value c = rw c.from.ensures (present_adds _ _ _ _ (rw c.in-Some.is at c.label_in.ensures) c.occurs.ensures)
-
-pub returns-in-None-clause-value : goal.returns-in-None-clause-value
-returns-in-None-clause-value c = search (rules, absent_adds)
+pub returns-clause-value : goal.returns-clause-value
+returns-clause-value c = c.new_at.ensures.value ∙ new_there c.args.domain c.args.others.now c.label_place.ensures c.args.n.now

@@ -1,6 +1,6 @@
 -- What the closure says of each row is not found by itself: the law takes it as a premise.
 use Rattle.std.proofs.Common.{rules, tests, ◌∙◌}
-use Rattle.laws.specs.Keyed.{through}
+use Rattle.laws.specs.Through.{through}
 use Rattle.laws.proofs.Found.{has_from_any}
 use Rattle.laws.proofs.Through.{has_map}
 use Rattle.tables.proofs.contains.Goals as goal

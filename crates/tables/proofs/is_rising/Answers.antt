@@ -1,7 +1,8 @@
 -- What the closure says of two rows is not found by itself: `is_sorted_by` takes it as a premise.
 use Rattle.std.proofs.Common.{rules, tests, ◌∙◌}
 use Rattle.std.proofs.lemmas.Fn.{always_returns_same}
-use Rattle.laws.specs.Keyed.{before, through}
+use Rattle.laws.specs.Keyed.{before}
+use Rattle.laws.specs.Through.{through}
 use Rattle.laws.proofs.Adjacent.{rising_is}
 use Rattle.laws.proofs.Through.{rising_map}
 use Rattle.tables.proofs.is_rising.Goals as goal

@@ -1,5 +1,5 @@
 -- Open without it: the way out by `?`, where a copy stands on the node.
-use Rattle.nodes.proofs.Expected.{each_refuses}
+use Rattle.metadata.proofs.Each.{each_refuses}
 use Rattle.nodes.proofs.lifecycle.expected_in.Goals as goal
 
 pub returns-in_err-expected_on : goal.returns-in_err-expected_on

@@ -1,5 +1,6 @@
 -- Open without it: the way out by `?`, where a tablet expects the node.
-use Rattle.nodes.proofs.Expected.{by_tablet, each_refuses}
+use Rattle.metadata.proofs.Each.{each_refuses}
+use Rattle.nodes.proofs.Expected.{by_tablet}
 use Rattle.nodes.proofs.lifecycle.still_expected.Goals as goal
 use Rattle.rows.specs.Rows.{placement_rows}
 

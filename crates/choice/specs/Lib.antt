@@ -1,0 +1,2 @@
+-- The definitions that this crate adds to those of `metadata`. Assumes nothing.
+pub mod Gains

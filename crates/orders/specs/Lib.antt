@@ -1,0 +1,2 @@
+-- Orders of keys. Assumes nothing.
+pub mod Pairs

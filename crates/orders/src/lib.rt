@@ -1,0 +1,3 @@
+#![tactic(auto)]
+
+// What an order of keys owes, for numbers and for pairs of them: laws alone.

@@ -1,0 +1,5 @@
+use Rattle.stored_tapes.specs.StoredTapes.{Replayed}
+use Rattle.stored_tapes.proofs.replay_all.Given as goal
+
+abbrev pub invariant-loop : goal.invariant-loop
+invariant-loop g l = Replayed (g.R.Read.remaining l.initial.input) (g.R.Read.remaining l.input) (g.W.Write.contents l.initial.out) (g.W.Write.contents l.out)

@@ -1,0 +1,4 @@
+-- The laws that belong to no one function. Assumes nothing.
+pub mod Openings
+pub mod Slices
+pub mod Applying
