@@ -1,14 +1,18 @@
 //! The oracle's program: its words, standard input and standard output.
 
+use std::fs;
 use std::io::{self, Read, Write};
 use std::process::ExitCode;
 
-use oracle::{compare, dump, generate, handlers, model, text, vectors};
+use oracle::tape::Line;
+use oracle::{blocks, compare, dump, generate, handlers, model, text, vectors};
 
 const USAGE: &str = "usage: oracle [--dump] < TAPE
        oracle model [--dump] < TAPE
        oracle generate KIND SEED > TAPE
-       oracle compare [--model] [--kind KIND] TAPES [SEED]
+       oracle block BLOCK COMMANDS
+       oracle compare [--program|--library|--model] [--kind KIND] [--hand-made N] TAPES [SEED]
+       oracle compare .. --short
        oracle vectors DIRECTORY
 KIND is deep, faults, full, broken, opening or ranges";
 
@@ -23,6 +27,13 @@ fn main() -> ExitCode {
         ["generate", kind, seed] => match (generate::Kind::named(kind), seed.parse()) {
             (Some(kind), Ok(seed)) => print(&generate::tape(kind, seed).bytes()),
             _ => usage(),
+        },
+        ["block", block, commands] => match by_block(block, commands) {
+            Ok(out) => print(out.as_bytes()),
+            Err(error) => {
+                eprintln!("{error}");
+                ExitCode::FAILURE
+            }
         },
         ["compare", ..] => match compare::plan(&words[1..]) {
             Some(plan) => by_plan(&plan),
@@ -45,7 +56,7 @@ fn usage() -> ExitCode {
 }
 
 fn by_plan(plan: &compare::Plan) -> ExitCode {
-    if let Some(missing) = plan.side.missing() {
+    if let Some(missing) = plan.sides.iter().find_map(compare::Side::missing) {
         eprintln!("{missing}");
         return ExitCode::from(2);
     }
@@ -71,6 +82,26 @@ fn by_model(with_dump: bool) -> ExitCode {
         out.push_str(&model.dump());
     }
     print(out.as_bytes())
+}
+
+/// What the second reading says of a block and of commands to it: the clauses of reason 12 that it breaks, the
+/// answers, and the rows left.
+fn by_block(block: &str, commands: &str) -> io::Result<String> {
+    let (mut block, commands) = (fs::read(block)?, fs::read(commands)?);
+    let broken = blocks::broken(&block);
+    let mut out: String = broken
+        .iter()
+        .map(|clause| format!("breaks: {clause}\n"))
+        .collect();
+    let answers = blocks::apply(&mut block, &commands);
+    let lines = (1..)
+        .zip(answers)
+        .map(|(number, answer)| Line { number, answer });
+    out.push_str(&text(&lines.collect::<Vec<_>>()));
+    if broken.is_empty() {
+        out.push_str(&blocks::rows(&block).dump());
+    }
+    Ok(out)
 }
 
 fn input() -> Vec<u8> {

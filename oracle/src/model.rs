@@ -1,6 +1,7 @@
 //! A second reading of document 01, written from its text alone: plain maps, operands read at their
 //! offsets, the table of refusals from top to bottom. It shares no code with the oracle but the form of
-//! a line, so that the two can be compared, and it guides the generator.
+//! a line, so that the two can be compared, and it guides the generator. The maps hold the rows of every
+//! sound store, also of those that no opening and no command gives; blocks.rs reads them from a block.
 
 use std::collections::{BTreeMap, BTreeSet};
 use std::fmt::Write;
@@ -24,6 +25,18 @@ pub struct NodeRow {
 pub enum Part {
     Hash(u32, u32),
     Range(Vec<u8>, Vec<u8>),
+    /// One that no admitted command has, in a store that was made by hand.
+    Other(Partition),
+}
+
+/// The fields of a partition as a row has them.
+#[derive(Debug, Clone, PartialEq)]
+pub struct Partition {
+    pub kind: u8,
+    pub bucket: u32,
+    pub count: u32,
+    pub start: Vec<u8>,
+    pub end: Vec<u8>,
 }
 
 #[derive(Debug, Clone, PartialEq)]
@@ -84,11 +97,36 @@ pub fn run(tape: &[u8]) -> (Vec<Line>, Model) {
     (lines, model)
 }
 
-fn say(number: u64, a: u64, b: u64, c: u64) -> Answer {
+pub fn say(number: u64, a: u64, b: u64, c: u64) -> Answer {
     Answer {
         number,
         operands: [a, b, c],
     }
+}
+
+/// How many bytes of the tape are its opening: 9 where it has too many tables, none where it is cut.
+pub fn opening_length(tape: &[u8]) -> usize {
+    if tape.len() < 9 {
+        return 0;
+    }
+    match tape[0] as usize {
+        17.. => 9,
+        count if tape.len() < 9 + 12 * count => 0,
+        count => 9 + 12 * count,
+    }
+}
+
+/// Where the command at `at` ends, or the answer to a byte that begins no command or a cut one.
+pub fn command_end(tape: &[u8], at: usize) -> Result<usize, Answer> {
+    let byte = tape[at];
+    if byte == 0 || byte > 7 {
+        return Err(say(40, 1, byte as u64, 0));
+    }
+    let end = at + 1 + OPERANDS[byte as usize];
+    if end > tape.len() {
+        return Err(say(40, 2, byte as u64, 0));
+    }
+    Ok(end)
 }
 
 /// The opening at the front of the tape; `at` moves behind it.
@@ -121,6 +159,18 @@ pub fn open(tape: &[u8], at: &mut usize) -> Result<Model, Answer> {
     Ok(model)
 }
 
+/// The commands, one by one; what is no whole command is the last.
+pub fn split(commands: &[u8]) -> Vec<Vec<u8>> {
+    let mut parts = Vec::new();
+    let mut at = 0;
+    while at < commands.len() {
+        let end = command_end(commands, at).unwrap_or(commands.len());
+        parts.push(commands[at..end].to_vec());
+        at = end;
+    }
+    parts
+}
+
 impl Model {
     /// The store of an opening that was refused or cut.
     pub fn empty() -> Self {
@@ -137,15 +187,12 @@ impl Model {
 
     /// The command at `at`, which moves behind it.
     pub fn step(&mut self, tape: &[u8], at: &mut usize) -> Answer {
-        let byte = tape[*at];
-        if byte == 0 || byte > 7 {
-            return say(40, 1, byte as u64, 0);
-        }
-        let start = *at + 1;
-        let end = start + OPERANDS[byte as usize];
-        let Some(operands) = tape.get(start..end) else {
-            return say(40, 2, byte as u64, 0);
+        let (byte, start) = (tape[*at], *at + 1);
+        let end = match command_end(tape, *at) {
+            Ok(end) => end,
+            Err(answer) => return answer,
         };
+        let operands = &tape[start..end];
         *at = end;
         for reason in 1..=9 {
             if faulty(byte, operands, reason) {
@@ -179,13 +226,7 @@ impl Model {
     }
 
     fn register(&mut self, operands: &[u8]) -> Answer {
-        let id = long(operands, 0);
-        let row = NodeRow {
-            endpoints: [0, 1, 2, 3].map(|field| string(operands, 8 + 49 * field)),
-            labels: [0, 1, 2].map(|label| maybe(operands, 204 + 25 * label)),
-            class: string(operands, 279),
-            lifecycle: operands[304],
-        };
+        let (id, row) = node_row(operands);
         if let Some(known) = self.nodes.get(&id) {
             if *known == row {
                 return say(1, 0, 0, 0);
@@ -223,14 +264,18 @@ impl Model {
         if node.lifecycle == to {
             return say(1, 0, 0, 0);
         }
-        if node.lifecycle + 1 != to {
+        if node.lifecycle.checked_add(1) != Some(to) {
             return say(15, id, node.lifecycle as u64, to as u64);
         }
-        if to == 3 {
-            for (tablet, placement) in &self.placements {
+        // On the move to Tombstoned too, as the source has it; a placement without a tablet is not found.
+        if to >= 3 {
+            for (tablet, row) in &self.tablets {
+                let Some(placement) = self.placements.get(tablet) else {
+                    continue;
+                };
                 for (replica, host, _) in &placement.replicas {
                     if *host == id {
-                        return say(16, id, self.tablets[tablet].group, *replica);
+                        return say(16, id, row.group, *replica);
                     }
                 }
             }
@@ -240,17 +285,7 @@ impl Model {
     }
 
     fn tablet(&mut self, operands: &[u8]) -> Answer {
-        let id = long(operands, 0);
-        let row = TabletRow {
-            table: long(operands, 8),
-            group: long(operands, 16),
-            epoch: long(operands, 24),
-            part: if operands[32] == 0 {
-                Part::Hash(short(operands, 33), short(operands, 37))
-            } else {
-                Part::Range(string(operands, 41), string(operands, 74))
-            },
-        };
+        let (id, row) = tablet_row(operands);
         if let Some(known) = self.tablets.get(&id) {
             return if *known == row {
                 say(1, 0, 0, 0)
@@ -272,17 +307,11 @@ impl Model {
                 continue;
             }
             siblings += 1;
-            match (&known.part, &row.part) {
-                (Part::Hash(known, _), Part::Hash(new, _)) if known == new => bucket_taken = true,
-                (Part::Range(from, to), Part::Range(start, end)) => {
-                    // Two ranges share a key exactly when the later start lies in both.
-                    let later = from.max(start);
-                    let before = |end: &Vec<u8>| end.is_empty() || later < end;
-                    if overlapped.is_none() && before(to) && before(end) {
-                        overlapped = Some(*other);
-                    }
-                }
-                _ => {}
+            if let (Some(known), Some(new)) = (known.part.bucket(), row.part.bucket()) {
+                bucket_taken |= known == new;
+            }
+            if overlapped.is_none() && known.part.overlaps(&row.part) {
+                overlapped = Some(*other);
             }
         }
         if let Part::Hash(bucket, count) = row.part {
@@ -309,19 +338,7 @@ impl Model {
     }
 
     fn placement(&mut self, operands: &[u8]) -> Answer {
-        let tablet = long(operands, 0);
-        let count = operands[16] as usize;
-        let leader_count = operands[177] as usize;
-        let row = PlacementRow {
-            epoch: long(operands, 8),
-            replicas: (0..count).map(|place| replica(operands, place)).collect(),
-            factor: short(operands, 136),
-            minima: [140, 144, 148].map(|offset| short(operands, offset)),
-            class: maybe(operands, 152),
-            leaders: (0..leader_count)
-                .map(|place| long(operands, 178 + 8 * place))
-                .collect(),
-        };
+        let (tablet, row) = placement_row(operands);
         let Some(group) = self.tablets.get(&tablet).map(|tablet| tablet.group) else {
             return say(25, tablet, 0, 0);
         };
@@ -384,19 +401,23 @@ impl Model {
                     return say(32, tablet, stored.epoch + 1, row.epoch);
                 }
                 for (id, host, role) in &row.replicas {
-                    for (old, old_host, old_role) in &stored.replicas {
-                        if old != id {
-                            continue;
-                        }
-                        if old_host != host {
-                            return say(33, *id, *old_host, *host);
-                        }
-                        if *old_role == 0 && *role == 1 {
-                            return say(34, *id, 0, 0);
-                        }
+                    // Of several with this number the last is the old one, as in the source.
+                    let old = stored.replicas.iter().rfind(|(old, _, _)| old == id);
+                    let Some((_, old_host, old_role)) = old else {
+                        continue;
+                    };
+                    if old_host != host {
+                        return say(33, *id, *old_host, *host);
+                    }
+                    if *old_role == 0 && *role == 1 {
+                        return say(34, *id, 0, 0);
                     }
                 }
             }
+        }
+        // Placements of tablets that are not there can fill the room that placements share with tablets.
+        if stored.is_none() && self.placements.len() == 64 {
+            return say(39, 1, 64, 0);
         }
         for (id, _, _) in &row.replicas {
             self.marks.raise(3, *id);
@@ -406,9 +427,7 @@ impl Model {
     }
 
     fn retirement(&mut self, operands: &[u8]) -> Answer {
-        let group = long(operands, 0);
-        let replica = long(operands, 8);
-        let proof = [16, 24, 32, 40].map(|offset| long(operands, offset));
+        let ((group, replica), proof) = retirement_row(operands);
         let Some((tablet, _)) = self.tablets.iter().find(|(_, row)| row.group == group) else {
             return say(35, group, 0, 0);
         };
@@ -446,7 +465,7 @@ impl Model {
     }
 
     /// Up to three Active nodes, each time the highest gain and among those the lowest id.
-    fn first_choice(&self) -> Vec<u64> {
+    pub fn first_choice(&self) -> Vec<u64> {
         let mut chosen: Vec<u64> = Vec::new();
         for _ in 0..3 {
             let mut best: Option<(u64, u64)> = None;
@@ -468,8 +487,15 @@ impl Model {
         chosen
     }
 
+    /// As many tablets as the table's count says; no for an unknown table.
+    pub fn is_complete(&self, table: u64) -> bool {
+        let held = self.tablets.values().filter(|row| row.table == table);
+        let count = self.tables.get(&table);
+        count.is_some_and(|count| held.count() as u64 == *count as u64)
+    }
+
     /// How many different present labels the nodes have in a domain.
-    fn distinct(&self, nodes: &[u64], domain: usize) -> u64 {
+    pub fn distinct(&self, nodes: &[u64], domain: usize) -> u64 {
         let labels: BTreeSet<&Vec<u8>> = nodes
             .iter()
             .filter_map(|id| self.nodes[id].labels[domain].as_ref())
@@ -501,8 +527,7 @@ impl Model {
             writeln!(out, " {} {}", text(&node.class), node.lifecycle).unwrap();
         }
         for (id, count) in &self.tables {
-            let held = self.tablets.values().filter(|row| row.table == *id).count();
-            let word = match held as u64 == *count as u64 {
+            let word = match self.is_complete(*id) {
                 true => "complete",
                 false => "incomplete",
             };
@@ -517,7 +542,10 @@ impl Model {
             .unwrap();
             match &row.part {
                 Part::Hash(bucket, count) => writeln!(out, "hash {bucket} {count}").unwrap(),
-                Part::Range(start, end) => {
+                Part::Other(part) if part.kind == 0 => {
+                    writeln!(out, "hash {} {}", part.bucket, part.count).unwrap()
+                }
+                Part::Range(start, end) | Part::Other(Partition { start, end, .. }) => {
                     writeln!(out, "range {} {}", text(start), text(end)).unwrap()
                 }
             }
@@ -573,6 +601,48 @@ impl Model {
         }
         out
     }
+}
+
+impl Part {
+    /// The bucket of a Hash tablet.
+    fn bucket(&self) -> Option<u32> {
+        match self {
+            Self::Hash(bucket, _) => Some(*bucket),
+            Self::Other(part) if part.kind == 0 => Some(part.bucket),
+            _ => None,
+        }
+    }
+
+    /// Start and end of a Range tablet.
+    fn range(&self) -> Option<(&[u8], &[u8])> {
+        match self {
+            Self::Range(start, end) => Some((start, end)),
+            Self::Other(part) if part.kind == 1 => Some((&part.start, &part.end)),
+            _ => None,
+        }
+    }
+
+    /// Both are ranges, and they overlap.
+    fn overlaps(&self, other: &Self) -> bool {
+        match (self.range(), other.range()) {
+            (Some(one), Some(other)) => ranges_overlap(one, other),
+            _ => false,
+        }
+    }
+}
+
+/// Disjoint only if one end is non-empty, the other start is non-empty, and end is at most start.
+pub fn ranges_overlap(one: (&[u8], &[u8]), other: (&[u8], &[u8])) -> bool {
+    let before = |end: &[u8], start: &[u8]| !end.is_empty() && !start.is_empty() && end <= start;
+    let overlap = !before(one.1, other.0) && !before(other.1, one.0);
+    let admitted = |(start, end): (&[u8], &[u8])| start.is_empty() || end.is_empty() || start < end;
+    if admitted(one) && admitted(other) {
+        // Admitted ranges share a key exactly when the later start lies in both.
+        let later = one.0.max(other.0);
+        let inside = |end: &[u8]| end.is_empty() || later < end;
+        assert_eq!(overlap, inside(one.1) && inside(other.1));
+    }
+    overlap
 }
 
 impl Marks {
@@ -656,6 +726,71 @@ fn faulty(byte: u8, operands: &[u8], reason: u64) -> bool {
     }
 }
 
+// Rows, from the bytes that stand behind a command's byte.
+
+pub fn node_row(bytes: &[u8]) -> (u64, NodeRow) {
+    let row = NodeRow {
+        endpoints: [0, 1, 2, 3].map(|field| string(bytes, 8 + 49 * field)),
+        labels: [0, 1, 2].map(|label| maybe(bytes, 204 + 25 * label)),
+        class: string(bytes, 279),
+        lifecycle: bytes[304],
+    };
+    (long(bytes, 0), row)
+}
+
+pub fn tablet_row(bytes: &[u8]) -> (u64, TabletRow) {
+    let part = Partition {
+        kind: bytes[32],
+        bucket: short(bytes, 33),
+        count: short(bytes, 37),
+        start: string(bytes, 41),
+        end: string(bytes, 74),
+    };
+    let row = TabletRow {
+        table: long(bytes, 8),
+        group: long(bytes, 16),
+        epoch: long(bytes, 24),
+        part: match part {
+            Partition {
+                kind: 0,
+                bucket,
+                count,
+                start,
+                end,
+            } if start.is_empty() && end.is_empty() => Part::Hash(bucket, count),
+            Partition {
+                kind: 1,
+                bucket: 0,
+                count: 0,
+                start,
+                end,
+            } => Part::Range(start, end),
+            part => Part::Other(part),
+        },
+    };
+    (long(bytes, 0), row)
+}
+
+pub fn placement_row(bytes: &[u8]) -> (u64, PlacementRow) {
+    let row = PlacementRow {
+        epoch: long(bytes, 8),
+        replicas: used(bytes),
+        factor: short(bytes, 136),
+        minima: [140, 144, 148].map(|offset| short(bytes, offset)),
+        class: maybe(bytes, 152),
+        leaders: (0..7)
+            .take(bytes[177] as usize)
+            .map(|place| long(bytes, 178 + 8 * place))
+            .collect(),
+    };
+    (long(bytes, 0), row)
+}
+
+pub fn retirement_row(bytes: &[u8]) -> ((u64, u64), [u64; 4]) {
+    let key = (long(bytes, 0), long(bytes, 8));
+    (key, [16, 24, 32, 40].map(|offset| long(bytes, offset)))
+}
+
 /// The used places: as many as the count says, all seven above that.
 fn used(operands: &[u8]) -> Vec<(u64, u64, u8)> {
     (0..7)
@@ -707,7 +842,7 @@ fn all_spaces(operands: &[u8], offset: usize) -> bool {
         .all(|byte| *byte == 0x20)
 }
 
-fn string(operands: &[u8], offset: usize) -> Vec<u8> {
+pub fn string(operands: &[u8], offset: usize) -> Vec<u8> {
     operands[offset + 1..]
         .iter()
         .copied()
@@ -719,13 +854,13 @@ fn maybe(operands: &[u8], offset: usize) -> Option<Vec<u8>> {
     (operands[offset] != 255).then(|| string(operands, offset))
 }
 
-fn long(bytes: &[u8], offset: usize) -> u64 {
+pub fn long(bytes: &[u8], offset: usize) -> u64 {
     (0..8)
         .rev()
         .fold(0, |value, byte| value << 8 | bytes[offset + byte] as u64)
 }
 
-fn short(bytes: &[u8], offset: usize) -> u32 {
+pub fn short(bytes: &[u8], offset: usize) -> u32 {
     (0..4)
         .rev()
         .fold(0, |value, byte| value << 8 | bytes[offset + byte] as u32)

@@ -47,6 +47,13 @@ pub fn tablet(id: u64, row: &TabletRow) -> Vec<u8> {
     let (kind, bucket, count, start, end) = match &row.part {
         Part::Hash(bucket, count) => (0, *bucket, *count, &[][..], &[][..]),
         Part::Range(start, end) => (1, 0, 0, &start[..], &end[..]),
+        Part::Other(part) => (
+            part.kind,
+            part.bucket,
+            part.count,
+            &part.start[..],
+            &part.end[..],
+        ),
     };
     bytes.push(kind);
     short(&mut bytes, bucket);

@@ -6,7 +6,7 @@ mod faults;
 mod full;
 mod openings;
 mod ranges;
-mod workload;
+pub mod workload;
 
 use crate::random::Random;
 

@@ -66,14 +66,21 @@ impl Workload {
         Self::with_opening(random, group_mark, &tables)
     }
 
-    pub fn with_opening(mut random: Random, group_mark: u64, tables: &[(u64, u32)]) -> Self {
+    pub fn with_opening(random: Random, group_mark: u64, tables: &[(u64, u32)]) -> Self {
         let opening = encode::opening(group_mark, tables);
         let model = model::open(&opening, &mut 0).expect("the opening is good");
+        let mut work = Self::on(random, model);
+        work.parts.opening = opening;
+        work
+    }
+
+    /// Commands for a store that is there.
+    pub fn on(mut random: Random, model: Model) -> Self {
         let labels = [b'r', b'z', b'k'].map(|letter| labels(&mut random, letter));
         Self {
             model,
             parts: Parts {
-                opening,
+                opening: Vec::new(),
                 commands: Vec::new(),
             },
             node_ids: ids(&mut random, 48),
@@ -401,10 +408,10 @@ impl Workload {
                 break;
             };
             let apart = held.iter().all(|other| match other {
-                Part::Hash(..) => true,
                 Part::Range(from, to) => {
                     (!end.is_empty() && end <= from) || (!to.is_empty() && to <= start)
                 }
+                _ => true,
             });
             if apart {
                 break;
