@@ -1,13 +1,20 @@
-//! The library beside the original: the same command sequences, in one run, in turn. bench/run starts it; README.md says what the columns mean.
+//! The library beside the original: the same command sequences, in one run, in turn. bench/run starts it;
+//! README.md says what the columns mean.
 
+mod calls;
+mod depth;
 mod rows;
 mod sequence;
 mod stack;
 
+use std::hint::black_box;
 use std::process::ExitCode;
 use std::time::{Duration, Instant};
 
-use rows::Row;
+use lupinadze::{Store, linked};
+
+use calls::{CALL_SIDES, Calls};
+use rows::{CallRow, Row, Workload};
 use sequence::{SIDES, Sequence, Side};
 
 const SEEDS: std::ops::RangeInclusive<u64> = 1..=50;
@@ -23,10 +30,21 @@ const MIXED_RUNS: usize = 9;
 const SAMPLE: Duration = Duration::from_micros(100);
 const MOST_TIMES: usize = 32;
 
-const METHOD: &str = "Nanoseconds for one command. a: the Rust handlers behind the tape, as the oracle runs them (decoding, admission, handler, answers collected); b: the same handlers alone on
-values made beforehand; c: `lupinadze_run`. All three take the same commands in turn, in one process; the answers of a and c are equal, and so are the stores that a and b leave.
-A run of a row times the tape up to the row's last command and the tape before its first; a figure is the difference of the means of the lower halves of all runs, divided by the
-commands in between. A command that changes nothing is repeated 200 times.";
+const METHOD: &str = "\
+Nanoseconds for one command. a: the Rust handlers behind the tape, as the oracle runs them (decoding, admission,
+handler, answers collected); b: the same handlers alone on values made beforehand; c: `lupinadze_run`. All three
+take the same commands in turn, in one process; the answers of a and c are equal, and so are the stores that a
+and b leave. A run of a row times the tape up to the row's last command and the tape before its first; a figure
+is the difference of the means of the lower halves of all runs, divided by the commands in between. A command
+that changes nothing is repeated 200 times.";
+
+const CALLS: &str = "\
+Nanoseconds for one command on a store that lives between calls. own: the Rust handlers behind a store that they
+own, each command decoded, admitted and handled; one, many: `lupinadze_apply` with one and with 100 commands a
+call, on a block that the caller holds, which each call tests whole before all else; run: `lupinadze_run` on the
+same commands, by the difference above, which tests no store. empty: a store with its opening's 16 tables; full:
+32 nodes, 16 tables, 64 tablets with a placement each, 256 retirements. A figure is the mean of the lower half
+of all runs, each on a store as it was before.";
 
 /// Nanoseconds for a command on each side.
 struct Figures {
@@ -60,15 +78,25 @@ fn main() -> ExitCode {
     println!("\n### Mixed tapes\n");
     header("tapes");
     let mixed = rows::mixed(SEEDS, false);
-    for (name, tapes) in [
+    for (name, workloads) in [
         ("deep, seeds 1 to 50", &mixed),
         (
             "the same, no command on a full table",
             &rows::mixed(SEEDS, true),
         ),
     ] {
-        print(&measure_tapes(name, tapes));
+        print(&measure_tapes(name, workloads));
     }
+    println!("\n### Calls on a store\n\n{CALLS}\n");
+    call_header("command");
+    for row in rows::by_call() {
+        print_calls(&measure_calls(&row, budget));
+    }
+    print_calls(&measure_mixed_calls(
+        "mixed tapes, deep, seeds 1 to 50",
+        &mixed,
+    ));
+    println!("\n{}", soundness());
     stack(&mixed)
 }
 
@@ -131,11 +159,11 @@ fn measure(row: &Row, budget: Duration) -> Figures {
 }
 
 /// Whole tapes, opening included, summed and divided by the number of commands.
-fn measure_tapes(name: &str, tapes: &[Vec<u8>]) -> Figures {
+fn measure_tapes(name: &str, workloads: &[Workload]) -> Figures {
     let mut commands = 0;
     let mut sums = [0.0; 3];
-    for tape in tapes {
-        let mut sequence = Sequence::new(tape.clone());
+    for workload in workloads {
+        let mut sequence = Sequence::new(workload.tape());
         commands += sequence.commands();
         let mut samples: [Vec<f64>; 3] = Default::default();
         for run in 0..MIXED_RUNS {
@@ -157,7 +185,12 @@ fn measure_tapes(name: &str, tapes: &[Vec<u8>]) -> Figures {
 
 /// How often a sequence is run in one sample.
 fn times(sequence: &mut Sequence, side: Side) -> usize {
-    let once = sequence.time(side, 1).max(Duration::from_nanos(1));
+    sample_times(sequence.time(side, 1))
+}
+
+/// How often what takes so long once is run in one sample.
+fn sample_times(once: Duration) -> usize {
+    let once = once.max(Duration::from_nanos(1));
     (SAMPLE.as_nanos() / once.as_nanos() + 1).min(MOST_TIMES as u128) as usize
 }
 
@@ -168,47 +201,142 @@ fn lower_half(mut values: Vec<f64>) -> f64 {
     values.iter().sum::<f64>() / values.len() as f64
 }
 
-/// Prints the stack that the library takes, on the mixed tapes and the oracle's vectors, and holds the header to it.
-fn stack(mixed: &[Vec<u8>]) -> ExitCode {
-    let vectors = oracle::vectors::list();
-    let tapes: Vec<&[u8]> = mixed
-        .iter()
-        .chain(vectors.iter().map(|(_, tape)| tape))
-        .map(Vec::as_slice)
-        .collect();
-    let mut lists: Vec<Vec<u64>> = tapes
-        .iter()
-        .map(|tape| vec![0; 4 * lupinadze::answers(tape)])
-        .collect();
-    let run = stack::deepest(&mut || {
-        for (tape, list) in tapes.iter().zip(&mut lists) {
-            lupinadze::run_into(tape, list).expect("there is room");
-        }
-    });
-    let answers = stack::deepest(&mut || {
-        for tape in &tapes {
-            std::hint::black_box(lupinadze::answers(tape));
-        }
-    });
-    println!("\n### Stack\n");
-    println!(
-        "Deepest on {} tapes: `lupinadze_run` {} KiB, `lupinadze_answers` {} KiB.",
-        tapes.len(),
-        run.div_ceil(1024),
-        answers.div_ceil(1024)
-    );
-    let said = said_by_header();
-    if run.max(answers).div_ceil(1024) > said {
-        eprintln!("bindings/lupinadze.h says {said} KiB of stack, which is less");
-        return ExitCode::FAILURE;
-    }
-    ExitCode::SUCCESS
+/// Nanoseconds for a command: own, one and many of `CALL_SIDES`, and the run of the same commands.
+struct CallFigures {
+    name: String,
+    sides: [f64; 4],
+    runs: usize,
 }
 
-fn said_by_header() -> usize {
-    include_str!("../../bindings/lupinadze.h")
-        .split_once("Stack: ")
-        .and_then(|(_, rest)| rest.split(' ').next())
-        .and_then(|number| number.parse().ok())
-        .expect("the header has a line `Stack: ... KiB`")
+fn call_header(first: &str) {
+    println!("| {first} | own | one | many | run | one/own | many/own | many/run | runs |");
+    println!("|---|--:|--:|--:|--:|--:|--:|--:|--:|");
+}
+
+fn print_calls(figures: &CallFigures) {
+    let [own, one, many, run] = figures.sides;
+    println!(
+        "| {} | {own:.0} ns | {one:.0} ns | {many:.0} ns | {run:.0} ns | {:.2} | {:.2} | {:.2} | {} |",
+        figures.name,
+        one / own,
+        many / own,
+        many / run,
+        figures.runs
+    );
+}
+
+/// The three sides of calls, and the run of a tape with the row's commands and without them, in turn.
+fn measure_calls(row: &CallRow, budget: Duration) -> CallFigures {
+    let mut calls = Calls::new(&row.before, row.commands.clone());
+    for answer in &calls.answers {
+        assert_eq!(answer[0], row.answer, "{}", row.name);
+    }
+    let mut before = Sequence::new(row.before.clone());
+    let mut whole = Sequence::new([&row.before[..], &row.commands.concat()].concat());
+    let call_times = CALL_SIDES.map(|side| sample_times(calls.time(side, 1)));
+    let run_times = times(&mut whole, Side::Library);
+    let mut samples: [Vec<f64>; 5] = Default::default();
+    let start = Instant::now();
+    let mut runs = 0;
+    while runs < LEAST || (runs < MOST && start.elapsed() < budget) {
+        for turn in 0..samples.len() {
+            let at = (runs + turn) % samples.len();
+            let (time, times) = match at {
+                0..3 => (calls.time(CALL_SIDES[at], call_times[at]), call_times[at]),
+                3 => (whole.time(Side::Library, run_times), run_times),
+                _ => (before.time(Side::Library, run_times), run_times),
+            };
+            samples[at].push(time.as_nanos() as f64 / times as f64);
+        }
+        runs += 1;
+    }
+    let commands = calls.commands() as f64;
+    let [own, one, many, with, without] = samples.map(lower_half);
+    CallFigures {
+        name: format!("{}, {}", row.name, number_of(calls.commands())),
+        sides: [own, one, many, with - without].map(|time| time / commands),
+        runs,
+    }
+}
+
+fn number_of(commands: usize) -> String {
+    match commands {
+        1 => "once".to_string(),
+        more => format!("{more} times"),
+    }
+}
+
+/// Whole workloads on a store that their opening gives, summed and divided by the number of commands. The
+/// run's time has the opening in it.
+fn measure_mixed_calls(name: &str, workloads: &[Workload]) -> CallFigures {
+    let mut commands = 0;
+    let mut sums = [0.0; 4];
+    for workload in workloads {
+        let mut calls = Calls::new(&workload.opening, workload.commands.clone());
+        let mut sequence = Sequence::new(workload.tape());
+        commands += calls.commands();
+        let mut samples: [Vec<f64>; 4] = Default::default();
+        for run in 0..MIXED_RUNS {
+            for turn in 0..samples.len() {
+                let at = (run + turn) % samples.len();
+                let time = match at {
+                    0..3 => calls.time(CALL_SIDES[at], 1),
+                    _ => sequence.time(Side::Library, 1),
+                };
+                samples[at].push(time.as_nanos() as f64);
+            }
+        }
+        for (sum, samples) in sums.iter_mut().zip(samples) {
+            *sum += lower_half(samples);
+        }
+    }
+    CallFigures {
+        name: format!("{name}: {commands} commands"),
+        sides: sums.map(|sum| sum / commands as f64),
+        runs: MIXED_RUNS,
+    }
+}
+
+/// What each call on a store begins with.
+fn soundness() -> String {
+    let [empty, full] = [rows::empty_store(), rows::full_store()].map(|tape| {
+        let (mut store, taken) = Store::open_bytes(&tape).expect("the opening is accepted");
+        store.apply(&tape[taken..]);
+        let samples = (0..LEAST).map(|_| {
+            let start = Instant::now();
+            for _ in 0..MOST_TIMES {
+                assert_eq!(linked::is_sound(black_box(store.as_bytes())), 1);
+            }
+            start.elapsed().as_nanos() as f64 / MOST_TIMES as f64
+        });
+        lower_half(samples.collect())
+    });
+    format!("`lupinadze_is_sound`: {empty:.0} ns on the empty store, {full:.0} ns on the full one.")
+}
+
+/// Prints the stack that each function of the library takes, and holds the header to it.
+fn stack(mixed: &[Workload]) -> ExitCode {
+    let mut tapes: Vec<Vec<u8>> = mixed.iter().map(Workload::tape).collect();
+    tapes.extend(oracle::vectors::list().into_iter().map(|(_, tape)| tape));
+    tapes.push(rows::full_store());
+    let depths = depth::all(&tapes);
+    println!(
+        "\n### Stack\n\nDeepest on {} tapes and the stores that they leave.\n",
+        tapes.len()
+    );
+    println!("| function | bytes |\n|---|--:|");
+    for (name, bytes) in &depths {
+        println!("| `lupinadze_{name}` | {bytes} |");
+    }
+    let mut code = ExitCode::SUCCESS;
+    for (name, bytes) in depths {
+        let allowed = depth::allowed(name);
+        if bytes > allowed {
+            eprintln!(
+                "bindings/lupinadze.h leaves {allowed} bytes of stack to lupinadze_{name}, which takes {bytes}"
+            );
+            code = ExitCode::FAILURE;
+        }
+    }
+    code
 }

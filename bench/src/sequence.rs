@@ -1,4 +1,5 @@
-//! One command sequence in the forms that the three sides take: the bytes of its tape for the oracle and the library, the Rust's own values for its handlers.
+//! One command sequence in the forms that the three sides take: the bytes of its tape for the oracle and the
+//! library, the Rust's own values for its handlers.
 
 use std::hint::black_box;
 use std::time::{Duration, Instant};
@@ -27,7 +28,7 @@ pub const SIDES: [Side; 3] = [Side::Original, Side::Handlers, Side::Library];
 
 /// A handler's operand.
 #[derive(Clone)]
-enum Ready {
+pub enum Ready {
     Naming(String),
     Node(NodeDescriptor),
     Lifecycle(NodeId, NodeLifecycle),
@@ -38,7 +39,8 @@ enum Ready {
 }
 
 impl Ready {
-    fn new(command: &Command) -> Self {
+    /// Admission, and the operand as the handler takes it.
+    pub fn new(command: &Command) -> Self {
         assert_eq!(
             admission::reason(command),
             None,
@@ -61,7 +63,7 @@ impl Ready {
         }
     }
 
-    fn handle(self, state: &mut MetadataState) {
+    pub fn handle(self, state: &mut MetadataState) {
         let outcome = match self {
             Self::Naming(name) => state.reach_cluster_initialized(name),
             Self::Node(node) => state.reach_register_node(node),
@@ -133,8 +135,8 @@ impl Sequence {
         self.ready.len()
     }
 
-    /// The time of `times` runs of one side, from the opening's store on for the handlers, from the first byte on for the others. What a run leaves is dropped after the clock is
-    /// read.
+    /// The time of `times` runs of one side, from the opening's store on for the handlers, from the first
+    /// byte on for the others. What a run leaves is dropped after the clock is read.
     pub fn time(&mut self, side: Side, times: usize) -> Duration {
         match side {
             Side::Original => {
