@@ -20,6 +20,7 @@ use Rattle.metadata.specs.declared.NodeDescriptor.{NodeDescriptor}
 use Rattle.metadata.specs.declared.NodeId.{NodeId}
 use Rattle.rows.specs.Rows.{node_row}
 use Rattle.changes.specs.Changes.{Added, Moved, Registered}
+use Rattle.changes.proofs.Changed.{found_some, said_set}
 
 -- a field before the byte that was set
 field_before : (n a i : ℕ) (l : List ℕ) (v : ℕ) → a + n ≤ i → field_at n (set l i v) a ≡ field_at n l a
@@ -76,6 +77,13 @@ module _ (k : NodeId) (to at : ℕ) (row old t t' : List ℕ) (u : List (List �
         get_or-map node_row (rows_of node_width node_room t) at d (node_row d) (omega (arith, g.inside, length-map (rows_of node_width node_room t) node_row)) ∙ ap (λ (l : List (List ℕ)). node_row (get_or l at d)) (sym s) in
         r ∙ ap (λ (x : NodeDescriptor). with_lifecycle x to) (ap node_row o ∙ sym (v ∙ m))
 
+    -- the same by its place
+    is_moved : node_row row ≡ with_lifecycle (get_or nodes at blank_node) to
+    is_moved =
+        let a : take (length nodes) nodes ≡ nodes = take_all (length nodes) nodes (omega arith) in
+        let v : node_of k.0 nodes ≡ get_or nodes at blank_node = rw a at (spot node_key k.0 blank_node blank_node nodes (length nodes) at (rw a place)).value in
+        is_next ∙ ap (λ (x : NodeDescriptor). with_lifecycle x to) v
+
     pub moves : Moved k to t t'
     unfolding moved_nodes
     moves =
@@ -83,6 +91,11 @@ module _ (k : NodeId) (to at : ℕ) (row old t t' : List ℕ) (u : List (List �
           rows = λ rising known.
               let q : next.node_id.0 ≡ k.0 = row-key node_key blank_node k.0 nodes known in
               said_again node_key node_row node_width node_room at next row t t' e (ap (λ (i : ℕ). find_index (under node_key i) nodes) q ∙ place) i is_next rising;
+          known = λ j h.
+              let q : at ≡ j = cc (place, h) in
+              said_set node_key node_row node_width node_room at (with_lifecycle (get_or nodes at blank_node) to) row t t' e i is_moved
+              ∙ ap (λ (n : ℕ). set nodes n (with_lifecycle (get_or nodes n blank_node) to)) q;
+          unknown = λ h. absurd (never _ (found_some node_key k.0 nodes at place) h);
           tidies = tidy_again node_key node_row node_width node_room at next row t t' e i;
           long = i.long;
         }
@@ -90,8 +103,15 @@ module _ (k : NodeId) (to at : ℕ) (row old t t' : List ℕ) (u : List (List �
 -- no node has the id
 pub stays : (k : NodeId) (to : ℕ) (t : List ℕ) (u : List (List ℕ)) → u ≡ rows_of node_width node_room t → None ≡ find_index (under node_key k.0) (map node_row u) → Moved k to t t
 stays k to t u s p =
-    let n : has node_key k.0 (nodes_in t) ≡ false = found_none node_key k.0 (nodes_in t) (sym (p ∙ ap (λ (l : List (List ℕ)). find_index (under node_key k.0) (map node_row l)) s)) in
-    record { rows = λ rising known. absurd (never _ known n); tidies = λ h. h; long = refl }
+    let none : find_index (under node_key k.0) (nodes_in t) ≡ None = sym (p ∙ ap (λ (l : List (List ℕ)). find_index (under node_key k.0) (map node_row l)) s) in
+    let n : has node_key k.0 (nodes_in t) ≡ false = found_none node_key k.0 (nodes_in t) none in
+    record {
+      rows = λ rising known. absurd (never _ known n);
+      known = λ i h. absurd (cc (none, h));
+      unknown = λ h. refl;
+      tidies = λ h. h;
+      long = refl;
+    }
 
 -- ---- registering
 module _ (n : NodeDescriptor) (t t' : List ℕ) (u : List (List ℕ)) (s : u ≡ rows_of node_width node_room t) where
@@ -102,10 +122,15 @@ module _ (n : NodeDescriptor) (t t' : List ℕ) (u : List (List ℕ)) (s : u ≡
   pub registered_known : (at : ℕ) → Some at ≡ find_index (under node_key n.node_id.0) (map node_row u) → Moved n.node_id n.lifecycle t t' → Registered n t t'
   unfolding registered_nodes
   registered_known at p m =
-      let l : List NodeDescriptor = nodes_in t in
-      let a : take (length l) l ≡ l = take_all (length l) l (omega arith) in
-      let h : has node_key n.node_id.0 l ≡ true = rw a at (spot node_key n.node_id.0 blank_node blank_node l (length l) at (rw a (found_here p))).known in
-      record { rows = λ fits rising room. m.rows rising h ∙ rw h; tidies = m.tidies; long = m.long }
+      let h : has node_key n.node_id.0 (nodes_in t) ≡ true = found_some node_key n.node_id.0 (nodes_in t) at (found_here p) in
+      record {
+        rows = λ fits rising room. m.rows rising h ∙ rw h;
+        known = m.known;
+        new = λ fits absent room. absurd (never _ h absent);
+        full = λ absent room. absurd (never _ h absent);
+        tidies = m.tidies;
+        long = m.long;
+      }
 
   -- a new one
   pub registered_new : None ≡ find_index (under node_key n.node_id.0) (map node_row u) → Added node_key node_row node_width node_room n (sound_node n) t t' → Registered n t t'
@@ -114,6 +139,9 @@ module _ (n : NodeDescriptor) (t t' : List ℕ) (u : List (List ℕ)) (s : u ≡
       let h : has node_key n.node_id.0 (nodes_in t) ≡ false = found_none node_key n.node_id.0 (nodes_in t) (found_here p) in
       record {
         rows = λ fits rising room. m.rows fits (room h) ∙ sym (rw h (put_insert node_key n (nodes_in t) h));
+        known = λ i q. absurd (cc (found_here p, q));
+        new = λ fits absent room. m.rows fits room;
+        full = λ absent room. m.full room;
         tidies = m.tidies;
         long = m.long;
       }
