@@ -3,4 +3,5 @@ pub mod Advanced
 pub mod Finishing
 pub mod Opened
 pub mod AfterBuffers
+pub mod History
 pub mod Whole

@@ -1,16 +1,21 @@
 -- A whole tape: what its run leaves and writes. Assumes nothing.
-use Rattle.std.specs.Prelude.{ℕ, ◌≡◌, true, cond, List, [], ◌∷◌, ◌++◌, take, Option, Some, Result, OnOk, ◌⊎◌}
+use Rattle.std.specs.Prelude.{ℕ, ◌≡◌, Bool, true, false, cond, List, [], ◌∷◌, ◌++◌, take, Option, Some, Result, OnOk, ◌⊎◌}
 use Rattle.std.specs.Io.KnownBytes.{Consumes, Appends, IsAtEnd}
 use Rattle.chunks.specs.Chunks.{lines_text}
 use Rattle.streaming.specs.declared.End.{End}
 use Rattle.streaming.specs.declared.End.TheVariants as H
+use Rattle.streaming.specs.declared.Failure.{Failure}
+use Rattle.streaming.specs.declared.Failure.TheVariants as F
 use Rattle.layout.specs.Layout.{store_of, sound}
 use Rattle.metadata.specs.Answers.{is_applied}
 use Rattle.metadata.specs.Claims.{Claims}
 use Rattle.metadata.specs.History.{initial_history}
 use Rattle.metadata.specs.Model.{StoreRows}
+use Rattle.metadata.specs.Opening.{opening}
 use Rattle.metadata.specs.Run.{run, answers}
 use Rattle.metadata.specs.declared.Answer.{Answer}
+use Rattle.metadata.specs.declared.Command.{Command}
+use Rattle.metadata.specs.declared.TableRow.{TableRow}
 use Rattle.reading.specs.Places.{Opened}
 use Rattle.reading.specs.Reader.{read_from, tables_of, group_of, body_at, open_tape}
 use Rattle.tape.specs.Tape.{outcome, final_store}
@@ -62,6 +67,27 @@ pub record Beginning (l s : List ℕ) (output now : Option (List ℕ)) : Type 0 
 pub data Failed (l s s' : List ℕ) (output now : Option (List ℕ)) : Type 0 where
   unopened : s' ≡ s → now ≡ output → Failed l s s' output now
   partly : Beginning l s' output now → Failed l s s' output now
+
+-- commands lead from the one store's rows to the other's
+pub record Reached (s s' : StoreRows) : Type 0 where
+  pub commands : List Command
+  pub ran : s' ≡ run s commands
+
+-- commands lead to these rows from what the opening gives, and the history says of them and their answers all that it says
+pub record Told (tables : List TableRow) (group : ℕ) (s : StoreRows) : Type 0 where
+  pub reached : Reached (opening tables group).rows s
+  pub claims : Claims (initial_history tables group) reached.commands (answers (opening tables group).rows reached.commands) s
+
+-- whether it is the input that failed, and not the output
+abbrev pub is_input : Failure → Bool
+is_input (F.Input e) = true
+is_input (F.Output e) = false
+
+-- What a failure leaves in the block, whatever the reader: where no opening was read, the block as it was lent; where an opening was refused and its line not written, what a refused opening gives; and behind an accepted opening a sound store that commands lead to.
+pub data Left (f : Failure) (s s' : List ℕ) : Type 0 where
+  as_lent : is_input f ≡ true → s' ≡ s → Left f s s'
+  refused : is_input f ≡ false → (l : List ℕ) → is_applied (open_tape l).answer ≡ false → store_of s' ≡ (open_tape l).rows → sound s' ≡ true → Left f s s'
+  begun : (l : List ℕ) → is_applied (open_tape l).answer ≡ true → sound s' ≡ true → Told (tables_of l) (group_of l) (store_of s') → Left f s s'
 
 -- the opening was read: what is at hand has it whole, or the input is at its end
 pub record OpeningRead {V E : Type 0} (now : List ℕ) (unread after : Option (List ℕ)) (result : Result V E) : Type 0 where

@@ -3,14 +3,14 @@
 // A tape, run as it is read: never more than a buffer of it is held. Its lines go to a writer.
 ghost use Rattle.chunks.specs.Chunks.{lines_text};
 ghost use Rattle.streaming.specs.Stages.{end_of, Over, Broken, AfterBuffer};
-ghost use Rattle.streaming.specs.Whole.{TapeRun, Ended, Failed, OpeningRead};
+ghost use Rattle.streaming.specs.Whole.{TapeRun, Ended, Failed, Left, OpeningRead};
 ghost use Rattle.input.specs.Filled.{hand, rest};
 ghost use Rattle.layout.specs.Layout.{sound};
 ghost use Rattle.layout.specs.Places.{store_length};
 ghost use Rattle.printing.specs.Sent.{Sent};
 ghost use Rattle.reading.specs.Places.{stop_of, is_unknown};
 ghost use Rattle.reading.specs.Reader.{next_at};
-ghost use Rattle.std.specs.Prelude.{◌≡◌, true, false, ◌≤◌, length, IfOk, IfSome, OnErr};
+ghost use Rattle.std.specs.Prelude.{◌≡◌, true, false, ◌≤◌, length, IfOk, IfErr, IfSome, OnErr};
 
 use arrayvec::ArrayString;
 use chunks::{Pause, run_chunk};
@@ -66,20 +66,22 @@ fn finish<W: Write>(out: &mut W, unrun: &[u8], line: u64) -> io::Result<End>
 }
 
 // The commands at hand are run and their lines written; where none is left, what has arrived is read.
-// `input`, `out`, `store` and `buffer` are what is lent for the whole run: a struct of them would be taken apart again in each function.
+// `input`, `out`, `store`, `buffer` and `lines` are what is lent for the whole run: a struct of them would be taken apart again in each function.
+// `lines` is made once and not in every turn, since a turn may be a read of a few bytes and `new` writes all of its room.
 fn run_buffer<R: Read, W: Write>(
     input: &mut R,
     out: &mut W,
     store: &mut [u8],
     buffer: &mut Buffer,
+    lines: &mut ArrayString<BUFFER_SIZE>,
     from: Place,
 ) -> Result<Progress, Failure>
     requires { (sound store.old ≡ true) × (from.at ≤ buffer.old.have) }
     ensures ok { IfOk result (AfterBuffer (record { unrun = rest buffer.old from.at; store = store.old; line = from.line; unread = R.remaining input.old; output = W.contents out.old }) buffer.new store.new (R.remaining input.new) (W.contents out.new)) }
     ensures err { OnErr result (Broken (record { unrun = rest buffer.old from.at; store = store.old; line = from.line; unread = R.remaining input.old; output = W.contents out.old }) store.new (R.remaining input.new) (W.contents out.new)) }
 {
-    let mut lines = ArrayString::<BUFFER_SIZE>::new();
-    let chunk = run_chunk(store, &buffer.at_hand()[from.at..], from.line, &mut lines);
+    lines.clear();
+    let chunk = run_chunk(store, &buffer.at_hand()[from.at..], from.line, lines);
     if let Err(e) = emit(out, lines.as_bytes()) {
         return Err(Failure::Output(e));
     }
@@ -112,9 +114,10 @@ fn run_all<R: Read, W: Write>(
     ensures ok { IfOk result (λ how. Over (record { unrun = rest buffer.old from.at; store = store.old; line = from.line; unread = R.remaining input.old; output = W.contents out.old }) how store.new (R.remaining input.new) (W.contents out.new) true) }
     ensures err { OnErr result (Broken (record { unrun = rest buffer.old from.at; store = store.old; line = from.line; unread = R.remaining input.old; output = W.contents out.old }) store.new (R.remaining input.new) (W.contents out.new)) }
 {
+    let mut lines = ArrayString::<BUFFER_SIZE>::new();
     let mut place = from;
     for _ in 0..u64::MAX {
-        match run_buffer(input, out, store, buffer, place) {
+        match run_buffer(input, out, store, buffer, &mut lines, place) {
             Ok(Progress::On(next)) => place = next,
             Ok(Progress::Over(how)) => return Ok(how),
             Err(e) => return Err(e),
@@ -149,6 +152,7 @@ pub fn run_tape<R: Read, W: Write>(
     ensures ran { IfOk result (λ how. TapeRun how store.new (R.remaining input.old) (R.remaining input.new) (W.contents out.old) (W.contents out.new)) }
     ensures whole { IfOk result (λ how. IfSome (R.remaining input.old) (λ tape. Ended tape how store.new (W.contents out.old) (W.contents out.new))) }
     ensures failed { OnErr result (IfSome (R.remaining input.old) (λ tape. Failed tape store.old store.new (W.contents out.old) (W.contents out.new))) }
+    ensures left { IfErr result (λ failure. Left failure store.old store.new) }
 {
     let mut buffer = Buffer::new();
     if let Err(e) = read_opening(input, &mut buffer) {
