@@ -153,9 +153,9 @@ pub fn judge_new_tablet(
     if group_held(t.raft_group_id, tablets) {
         return Err(Answer::RaftGroupConflict(t.raft_group_id));
     }
-    if !tables::contains::<Tables>(tables, t.table_id) {
+    let Some(_) = tables::stored::<Tables>(tables, t.table_id) else {
         return Err(Answer::UnknownTable(t.table_id));
-    }
+    };
     judge_kind(tables, tablets, t)?;
     if TABLET_ROOM <= tablets.len() {
         return Err(Answer::TableFull(TableKind::Tablets, TABLET_ROOM as u64));

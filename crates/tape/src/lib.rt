@@ -2,12 +2,12 @@
 
 // The command tape: the run over a whole tape.
 ghost use Rattle.answer_numbers.specs.Numbers.{written};
-ghost use Rattle.layout.specs.Places.{store_length};
 ghost use Rattle.metadata.specs.Answers.{reported};
 ghost use Rattle.std.specs.Prelude.{◌≡◌, false, cond, ltb, length};
 ghost use Rattle.tape.specs.Tape.{RunOf, ran_out, TapeClaims};
 
 use answer_numbers::write_answer;
+use layout::STORE_BYTES;
 use metadata::Answer;
 use reading::{body_at, count_lines, open_tape};
 use tape_commands::run_commands;
@@ -40,8 +40,7 @@ fn run_refused(opening: Answer, out: &mut [u64]) -> Ran
 // A whole tape in memory: four numbers for each answer go to the lent list, and the rows that are left to the lent block, whatever it held. Too short a list: no command is run, and no number is written.
 // The contract of the run, `RunOf` and `ran_out`, stands here and at `run`, which adds the history.
 #[tactic(auto, using(crate::proofs::Whole::runs))]
-fn run_whole(tape: &[u8], store: &mut [u8], out: &mut [u64]) -> Ran
-    requires { length store.old ≡ store_length }
+fn run_whole(tape: &[u8], store: &mut [u8; STORE_BYTES], out: &mut [u64]) -> Ran
     ensures ran { RunOf tape.now (length out.old) result store.new }
     ensures out { out.new ≡ ran_out tape.now out.old }
 {
@@ -62,10 +61,8 @@ fn run_whole(tape: &[u8], store: &mut [u8], out: &mut [u64]) -> Ran
     }
 }
 
-// Inner: the static library and the replays lend a block of their own, which has the length of a store.
 // The same, with demand 3: where the opening is accepted and the list is long enough, the block's rows are what the history says of the tape's commands and their answers.
-pub fn run(tape: &[u8], store: &mut [u8], out: &mut [u64]) -> Ran
-    requires { length store.old ≡ store_length }
+pub fn run(tape: &[u8], store: &mut [u8; STORE_BYTES], out: &mut [u64]) -> Ran
     ensures ran { RunOf tape.now (length out.old) result store.new }
     ensures out { out.new ≡ ran_out tape.now out.old }
     ensures history { TapeClaims tape.now result store.new }
