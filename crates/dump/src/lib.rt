@@ -1,6 +1,6 @@
 #![tactic(auto)]
 
-// The final tables and marks of a store's block: a line by its number, and all of them on a writer.
+// The final tables and marks of a store's block: a line by its number, how many there are, and all of them on a writer.
 ghost use Rattle.std.specs.Prelude.{◌≡◌, ◌≤◌, [], ◌∷◌, length, map};
 ghost use Rattle.printing.specs.Sent.{Sent};
 ghost use Rattle.dump.specs.Dump.{table_line_among, directory_lines, catalog_lines, dump_lines, dump_text};
@@ -12,6 +12,7 @@ ghost use Rattle.row_lines.specs.StoreLines.{marks_line, next_line};
 
 use arrayvec::ArrayString;
 use choice::select_initial_placement;
+use layout::STORE_BYTES;
 use metadata::MetadataAllocatorState;
 use printing::emit;
 use row_lines::{
@@ -107,9 +108,8 @@ fn put_catalog_at(out: &mut Page, catalog: &[u8], i: usize) -> Option<usize>
 }
 
 // The line under a number, on an empty page; false behind the last.
-pub fn put_line_at(out: &mut Page, store: &[u8], i: usize) -> bool
-    requires long { length store.now ≡ store_length }
-    requires empty { out.old.bytes ≡ [] }
+pub fn put_line_at(out: &mut Page, store: &[u8; STORE_BYTES], i: usize) -> bool
+    requires { out.old.bytes ≡ [] }
     ensures { LineAt (dump_lines (store_of store.now)) i out.new.bytes result }
 {
     let directory = layout::directory(store);
@@ -128,9 +128,22 @@ pub fn put_line_at(out: &mut Page, store: &[u8], i: usize) -> bool
 
 // ---- all lines
 
+// How many there are: one for each row, the name's, and the last three.
+pub fn line_count(store: &[u8; STORE_BYTES]) -> usize
+    ensures { result ≡ length (dump_lines (store_of store.now)) }
+{
+    let directory = layout::directory(store);
+    let catalog = layout::catalog(store);
+    let nodes = layout::nodes(directory).len();
+    let tables = layout::tables(catalog).len();
+    let tablets = layout::tablets(catalog).len();
+    let placements = layout::placements(catalog).len();
+    let retirements = layout::retirements(catalog).len();
+    nodes + tables + tablets + placements + retirements + 4
+}
+
 // The lines from a number on, as many as there is room for, and the number of the next.
-fn gather(block: &mut Block, store: &[u8], from: usize) -> usize
-    requires long { length store.now ≡ store_length }
+fn gather(block: &mut Block, store: &[u8; STORE_BYTES], from: usize) -> usize
     requires empty { block.old.bytes ≡ [] }
     requires within { from ≤ length (dump_lines (store_of store.now)) }
     ensures { Gathered (dump_lines (store_of store.now)) from result block.new.bytes }
@@ -148,8 +161,7 @@ fn gather(block: &mut Block, store: &[u8], from: usize) -> usize
 }
 
 // The final tables and marks on a writer.
-pub fn dump_store<W: Write>(to: &mut W, store: &[u8]) -> io::Result<()>
-    requires { length store.now ≡ store_length }
+pub fn dump_store<W: Write>(to: &mut W, store: &[u8; STORE_BYTES]) -> io::Result<()>
     ensures { Sent (W.contents to.old) (W.contents to.new) (dump_text (store_of store.now)) result }
 {
     let mut from = 0;

@@ -5,7 +5,7 @@ ghost use Rattle.lupinadze.specs.Asked.{node_said, tablet_said, desired_said, re
 ghost use Rattle.lupinadze.specs.Given.{Given, not_a_store};
 ghost use Rattle.std.specs.Prelude.{◌≡◌, cond, Some};
 
-use crate::given::{give, give_all};
+use crate::given::{give, give_all, give_key};
 use crate::{LUPINADZE_NONE, LUPINADZE_NOT_A_STORE, LUPINADZE_SHORT};
 use decode::tablet_at;
 use encode::{TABLET_BYTES, node_bytes, placement_bytes, retirement_bytes, tablet_bytes};
@@ -129,7 +129,7 @@ pub extern "C" fn lupinadze_overlap_start(
         };
     }
     match questions::overlap_start(store, TabletId(tablet), &tablet_at(other, 0)) {
-        Ok(Some(key)) => give_all(key, out),
+        Ok(Some(key)) => give_key(key, out),
         Ok(None) => LUPINADZE_NONE,
         Err(_) => LUPINADZE_NOT_A_STORE,
     }

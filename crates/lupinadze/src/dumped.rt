@@ -7,6 +7,7 @@ ghost use Rattle.std.specs.Prelude.{◌≡◌, ◌≤◌, true, [], length, get_
 
 use crate::given::give_all;
 use crate::{LUPINADZE_NONE, LUPINADZE_NOT_A_STORE};
+use layout::STORE_BYTES;
 use row_lines::Page;
 
 // No line has more bytes.
@@ -22,8 +23,11 @@ pub extern "C" fn lupinadze_dump(store: &[u8], line: u64, out: &mut [u8]) -> u64
     if !soundness::sound(store) {
         return LUPINADZE_NOT_A_STORE;
     }
+    let Ok(block) = <&[u8; STORE_BYTES]>::try_from(store) else {
+        return LUPINADZE_NOT_A_STORE;
+    };
     let mut page = Page::new();
-    if !dump::put_line_at(&mut page, store, line as usize) {
+    if !dump::put_line_at(&mut page, block, line as usize) {
         return LUPINADZE_NONE;
     }
     give_all(page.as_bytes(), out)

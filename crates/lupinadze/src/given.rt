@@ -23,3 +23,18 @@ pub fn give_all<T: Copy>(list: &[T], out: &mut [T]) -> u64
 {
     give(list.len() as u64, list, out)
 }
+
+// The same of a key that stands in one of two places, byte by byte: one copy from there, which the compiler can't tell from the lent list, would ask the
+// library's caller for a `memmove`.
+pub fn give_key(key: &[u8], out: &mut [u8]) -> u64
+    ensures count { result ≡ given_count (Some (said key.now)) out.old }
+    ensures list { out.new ≡ given_list (Some (said key.now)) out.old }
+{
+    if out.len() < key.len() {
+        return LUPINADZE_SHORT;
+    }
+    for i in 0..key.len() {
+        out[i] = key[i];
+    }
+    key.len() as u64
+}

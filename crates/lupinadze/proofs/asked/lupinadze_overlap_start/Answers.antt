@@ -8,7 +8,7 @@ returns-in-Ok-Some c =
     let e = rw c.in-Ok-Some.field-0-is at c.in-Ok-Some.ensures in
     from_key (sound c.args.store.now) (store_of c.args.store.now).catalog.tablets c.args.tablet c.args.other.now c.args.out.now c.tablet_at.result c.tablet_at.ensures
     c.if-other-lt-TABLET_BYTES.false e.0 e.1
-    c.give_all.ensures.count c.give_all.ensures.list
+    c.give_key.ensures.count c.give_key.ensures.list
 
 pub returns-in-Ok-None : goal.returns-in-Ok-None
 returns-in-Ok-None c =
