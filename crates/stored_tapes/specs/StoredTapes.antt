@@ -2,7 +2,8 @@
 use Rattle.std.specs.Prelude.{ℕ, ◌≡◌, List, [], ◌∷◌, ◌++◌, length, flat_map, codes, Option, None, Some}
 use Rattle.std.specs.Io.KnownBytes.{Consumes, Appends, IsAtEnd}
 use Rattle.laws.specs.Bytes.{number_at}
-use Rattle.stored_tapes.specs.Replays.{replay_text}
+use Rattle.stored_tapes.specs.Replays.{replay_text, extent_text}
+use Rattle.stored_tapes.specs.declared.Extent.{Extent}
 
 -- A name and a tape behind a head, which has the length of each in eight bytes, least first.
 pub record StoredTape : Type 0 where
@@ -28,12 +29,12 @@ abbrev pub HeadRead : Option (List ℕ) → Option (List ℕ) → Option (List �
 HeadRead unread after None = Consumes unread after [] × IsAtEnd after
 HeadRead unread after (Some head) = Consumes unread after head
 
--- the name and the tape behind a head were read, and it was replayed
-pub record TapeReplayed (head : List ℕ) (unread after output now : Option (List ℕ)) : Type 0 where
+-- the name and the tape behind a head were read, and it was replayed, or as much of it as there was room for
+pub record TapeReplayed (how : Extent) (head : List ℕ) (unread after output now : Option (List ℕ)) : Type 0 where
   pub stored : StoredTape
   pub same : stored.head ≡ head
   pub read : Consumes unread after (stored.name ++ stored.tape)
-  pub wrote : Appends output now (printed stored)
+  pub wrote : Appends output now (name_line stored.name ++ extent_text how stored.tape)
 
 -- such tapes were read and replayed, one behind the other
 pub record Replayed (unread after output now : Option (List ℕ)) : Type 0 where

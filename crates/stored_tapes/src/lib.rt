@@ -6,7 +6,7 @@ ghost use Rattle.printing.specs.Sent.{Sent};
 ghost use Rattle.std.specs.Io.KnownBytes.{Appends, Consumes, IsAtEnd};
 ghost use Rattle.std.specs.Prelude.{◌≡◌, ◌++◌, length, IfOk, min};
 ghost use Rattle.stored_tapes.specs.AnswerText.{answer_text};
-ghost use Rattle.stored_tapes.specs.Replays.{replay_text};
+ghost use Rattle.stored_tapes.specs.Replays.{extent_text};
 ghost use Rattle.stored_tapes.specs.StoredTapes.{name_line, HeadRead, TapeReplayed, Replayed};
 
 use arrayvec::ArrayString;
@@ -24,11 +24,18 @@ const NAME_ROOM: usize = 4096;
 
 const TAPE_ROOM: usize = 65536;
 
+// How much of a stored tape was replayed: all of it, or, where a program has no room for its answers, nothing.
+#[derive(Clone, Copy, PartialEq, Eq, Debug)]
+pub enum Extent {
+    Whole,
+    Short,
+}
+
 // A way that the commands of a tape take.
 pub trait Replay {
-    // A tape's lines, and the final tables and marks: the same whichever way, and all of them, or an error.
-    fn replay<W: Write>(out: &mut W, tape: &[u8]) -> io::Result<()>
-        ensures { IfOk result (λ _. Appends (W.contents out.old) (W.contents out.new) (replay_text tape.now)) };
+    // A tape's lines, and the final tables and marks: the same whichever way, and all of them, or an error. In place of them, where there is no room for the answers, a line that says so.
+    fn replay<W: Write>(out: &mut W, tape: &[u8]) -> io::Result<Extent>
+        ensures { IfOk result (λ how. Appends (W.contents out.old) (W.contents out.new) (extent_text how tape.now)) };
 }
 
 // An answer's number as a byte. One above 255, which no answer has, reads as 255.
@@ -97,8 +104,8 @@ fn replay_next<P: Replay, R: Read, W: Write>(
     input: &mut R,
     out: &mut W,
     head: &[u8; HEAD],
-) -> io::Result<()>
-    ensures { IfOk result (λ _. TapeReplayed head.now (R.remaining input.old) (R.remaining input.new) (W.contents out.old) (W.contents out.new)) }
+) -> io::Result<Extent>
+    ensures { IfOk result (λ how. TapeReplayed how head.now (R.remaining input.old) (R.remaining input.new) (W.contents out.old) (W.contents out.new)) }
 {
     let name_size = number8(head, 0) as usize;
     let tape_size = number8(head, 8) as usize;
@@ -115,17 +122,25 @@ fn replay_next<P: Replay, R: Read, W: Write>(
 }
 
 // Every stored tape of an input, to its end. One that is cut short, or longer than there is room for, is an error, and so is a read or a write that fails.
+// One whose answers have no room is an error at the end: the tapes behind it are replayed first.
 // The loop has more turns than any input uses up: a proved loop has to end.
 #[tactic(auto, using(crate::proofs::Reading::reading))]
 pub fn replay_all<P: Replay, R: Read, W: Write>(input: &mut R, out: &mut W) -> io::Result<()>
     ensures replayed { IfOk result (λ _. Replayed (R.remaining input.old) (R.remaining input.new) (W.contents out.old) (W.contents out.new)) }
     ensures whole { IfOk result (λ _. IsAtEnd (R.remaining input.new)) }
 {
+    let mut all = Extent::Whole;
     for _ in 0..u64::MAX {
         let Some(head) = next_head(input)? else {
-            return Ok(());
+            return match all {
+                Extent::Whole => Ok(()),
+                Extent::Short => Err(io::Error::from(ErrorKind::InvalidData)),
+            };
         };
-        replay_next::<P, R, W>(input, out, &head)?;
+        let how = replay_next::<P, R, W>(input, out, &head)?;
+        if let Extent::Short = how {
+            all = Extent::Short;
+        }
     }
     Err(io::Error::from(ErrorKind::TimedOut))
 }

@@ -2,16 +2,18 @@
 
 // Stored tapes through the library's run of a whole tape.
 ghost use Rattle.std.specs.Io.KnownBytes.{Appends};
-ghost use Rattle.std.specs.Prelude.{◌*◌, ◌≤◌, length, IfOk};
-ghost use Rattle.stored_tapes.specs.Replays.{replay_text};
+ghost use Rattle.std.specs.Prelude.{◌≡◌, ◌*◌, ◌<◌, ◌≤◌, length, IfOk};
+ghost use Rattle.stored_tapes.specs.Replays.{extent_text};
+ghost use Rattle.tape.specs.Tape.{outcome};
 ghost use Rattle.vectors.specs.Answers.{answers_text};
 
 use dump::dump_store;
 use layout::STORE_BYTES;
+use printing::emit;
 use std::io;
-use std::io::{ErrorKind, Write};
+use std::io::Write;
 use std::process::ExitCode;
-use stored_tapes::{Replay, print_answer, replay_all};
+use stored_tapes::{Extent, Replay, print_answer, replay_all};
 
 // Four for each answer.
 const NUMBER_ROOM: usize = 4096;
@@ -39,15 +41,21 @@ fn print_answers<W: Write>(out: &mut W, numbers: &[u64], count: usize, first: u6
 struct WholeTape;
 
 impl Replay for WholeTape {
-    fn replay<W: Write>(out: &mut W, tape: &[u8]) -> io::Result<()> {
+    // A tape is short only where its answers have more numbers than there is room for.
+    fn replay<W: Write>(out: &mut W, tape: &[u8]) -> io::Result<Extent>
+        ensures text { IfOk result (λ how. Appends (W.contents out.old) (W.contents out.new) (extent_text how tape.now)) }
+        ensures room { IfOk result (λ how. how ≡ Extent.Short → NUMBER_ROOM < 4 * length (outcome tape.now)) }
+    {
         let mut store = [0u8; STORE_BYTES];
         let mut numbers = [0u64; NUMBER_ROOM];
         let ran = tape::run(tape, &mut store, &mut numbers);
         if ran.short {
-            return Err(io::Error::from(ErrorKind::InvalidData));
+            emit(out, b"too many lines\n")?;
+            return Ok(Extent::Short);
         }
         print_answers(out, &numbers, ran.lines, u64::from(ran.opened))?;
-        dump_store(out, &store)
+        dump_store(out, &store)?;
+        Ok(Extent::Whole)
     }
 }
 

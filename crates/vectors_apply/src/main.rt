@@ -1,9 +1,10 @@
 #![tactic(auto)]
 
 // Stored tapes through `store::apply`, one command a call, on a store that lives between the calls.
+ghost use Rattle.std.specs.Io.KnownBytes.{Appends};
 ghost use Rattle.std.specs.Prelude.{◌≡◌, IfOk};
 ghost use Rattle.store.specs.Slices.{opening_length};
-ghost use Rattle.stored_tapes.specs.Replays.{AtOpening, LinesWritten};
+ghost use Rattle.stored_tapes.specs.Replays.{AtOpening, LinesWritten, extent_text};
 ghost use Rattle.vectors_apply.specs.OneAnswer.{OneAnswer};
 
 use dump::dump_store;
@@ -14,7 +15,7 @@ use std::io;
 use std::io::{ErrorKind, Write};
 use std::process::ExitCode;
 use store::{apply, open, opening_bytes};
-use stored_tapes::{Replay, print_answer, replay_all};
+use stored_tapes::{Extent, Replay, print_answer, replay_all};
 
 // One call, and the line of its one answer.
 fn apply_one<W: Write>(out: &mut W, store: &mut [u8], commands: &[u8], line: u64) -> io::Result<()>
@@ -53,17 +54,23 @@ fn apply_each<W: Write>(out: &mut W, store: &mut [u8], tape: &[u8], from: usize)
 struct OneByOne;
 
 impl Replay for OneByOne {
-    fn replay<W: Write>(out: &mut W, tape: &[u8]) -> io::Result<()> {
+    // Each answer is printed before the next command is run, so that any number of them has room.
+    fn replay<W: Write>(out: &mut W, tape: &[u8]) -> io::Result<Extent>
+        ensures text { IfOk result (λ how. Appends (W.contents out.old) (W.contents out.new) (extent_text how tape.now)) }
+        ensures whole { IfOk result (λ how. how ≡ Extent.Whole) }
+    {
         let mut store = [0u8; STORE_BYTES];
         let Ok(answer) = open(&mut store, tape) else {
             return Err(io::Error::from(ErrorKind::InvalidData));
         };
         if !answer.is_applied() {
             print_line(out, 0, answer)?;
-            return dump_store(out, &store);
+            dump_store(out, &store)?;
+            return Ok(Extent::Whole);
         }
         apply_each(out, &mut store, tape, opening_bytes(tape))?;
-        dump_store(out, &store)
+        dump_store(out, &store)?;
+        Ok(Extent::Whole)
     }
 }
 

@@ -3,8 +3,9 @@
 // Stored tapes through the entry points by value, under the source's names.
 ghost use Rattle.layout.specs.Layout.{Entered, Opened};
 ghost use Rattle.reading.specs.Reader.{body_at, cut_opening, open_tape};
+ghost use Rattle.std.specs.Io.KnownBytes.{Appends};
 ghost use Rattle.std.specs.Prelude.{◌≡◌, IfOk};
-ghost use Rattle.stored_tapes.specs.Replays.{AtOpening, LinesWritten};
+ghost use Rattle.stored_tapes.specs.Replays.{AtOpening, LinesWritten, extent_text};
 
 use decode::tables_at;
 use dump::dump_store;
@@ -20,7 +21,7 @@ use reading::{HEAD, Next, body_at, next_at, read_command};
 use std::io;
 use std::io::Write;
 use std::process::ExitCode;
-use stored_tapes::{Replay, replay_all};
+use stored_tapes::{Extent, Replay, replay_all};
 
 // One more than there is room for: what an opening with more tables is refused like.
 const TOO_MANY: [TableRow; TABLE_ROOM + 1] = [TableRow {
@@ -109,14 +110,20 @@ fn enter_each<W: Write>(out: &mut W, opened: Store, tape: &[u8], from: usize) ->
 struct ByValue;
 
 impl Replay for ByValue {
-    fn replay<W: Write>(out: &mut W, tape: &[u8]) -> io::Result<()> {
+    // Each answer is printed before the next command is run, so that any number of them has room.
+    fn replay<W: Write>(out: &mut W, tape: &[u8]) -> io::Result<Extent>
+        ensures text { IfOk result (λ how. Appends (W.contents out.old) (W.contents out.new) (extent_text how tape.now)) }
+        ensures whole { IfOk result (λ how. how ≡ Extent.Whole) }
+    {
         let Answered { answer, store } = open_tape(tape);
         if !answer.is_applied() {
             print_line(out, 0, answer)?;
-            return dump_store(out, &store.bytes);
+            dump_store(out, &store.bytes)?;
+            return Ok(Extent::Whole);
         }
         let left = enter_each(out, store, tape, body_at(tape))?;
-        dump_store(out, &left.bytes)
+        dump_store(out, &left.bytes)?;
+        Ok(Extent::Whole)
     }
 }
 

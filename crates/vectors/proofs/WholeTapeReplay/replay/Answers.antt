@@ -4,6 +4,6 @@ use Rattle.stored_tapes.proofs.Replaying.{replay_dumped}
 use Rattle.vectors.proofs.Printing.{run_told}
 use Rattle.vectors.proofs.WholeTapeReplay.replay.Goals as goal
 
-pub returns : goal.returns
-returns g c =
-    replay_dumped _ _ _ _ _ _ (run_told _ _ _ _ _ _ _ _ _ c.run-ran.ensures.ran c.run-ran.ensures.out refl c.if-ran.false c.from-2.ensures c.in_ok-print_answers.ensures) c.dump_store.ensures
+pub returns-clause-text : goal.returns-clause-text
+returns-clause-text g c =
+    replay_dumped _ _ _ _ _ _ (run_told _ _ _ _ _ _ _ _ _ c.run-ran.ensures.ran c.run-ran.ensures.out refl c.if-ran.false c.from.ensures c.in_ok-print_answers.ensures) c.in_ok-dump_store.ensures
