@@ -45,7 +45,7 @@ pub fn is_replica_retired(
 }
 
 // One of the replicas has the number.
-fn holds_replica(replicas: &[DesiredReplica], replica: ReplicaId) -> bool
+pub fn holds_replica(replicas: &[DesiredReplica], replica: ReplicaId) -> bool
     ensures { result ≡ any (λ r. eqb r.replica_id.0 replica.0) replicas.now }
 {
     replicas.iter().any(|r| r.replica_id == replica)
