@@ -12,10 +12,10 @@ use Rattle.metadata.specs.declared.TableRow.{TableRow}
 use Rattle.reading.proofs.Accepted.{accepted}
 use Rattle.reading.specs.Reader.{tables_of, group_of, open_tape}
 use Rattle.streaming.specs.Stages.{Stage, Broken, midway, at_end}
-use Rattle.streaming.specs.Whole.{Reached, Told}
+use Rattle.streaming.specs.Whole.{Reached, ReachedClaims}
 use Rattle.std.specs.Prelude.{Option}
 
-pub reached_history : (tables : List TableRow) (group : ℕ) → is_applied (opening tables group).answer ≡ true → (s : StoreRows) → Reached (opening tables group).rows s → Told tables group s
+pub reached_history : (tables : List TableRow) (group : ℕ) → is_applied (opening tables group).answer ≡ true → (s : StoreRows) → Reached (opening tables group).rows s → ReachedClaims tables group s
 reached_history tables group e s k =
     record {
       reached = k;
@@ -23,8 +23,8 @@ reached_history tables group e s k =
     }
 
 -- of a tape whose opening is accepted
-pub tape_told : (l : List ℕ) → is_applied (open_tape l).answer ≡ true → (s : StoreRows) → Reached (open_tape l).rows s → Told (tables_of l) (group_of l) s
-tape_told l a s k =
+pub tape_reached : (l : List ℕ) → is_applied (open_tape l).answer ≡ true → (s : StoreRows) → Reached (open_tape l).rows s → ReachedClaims (tables_of l) (group_of l) s
+tape_reached l a s k =
     reached_history (tables_of l) (group_of l) (ap (λ (o : Outcome). is_applied o.answer) (accepted l a) ∙ a) s
     (subst (λ (o : Outcome). Reached o.rows s) (sym (accepted l a)) k)
 

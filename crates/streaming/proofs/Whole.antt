@@ -11,10 +11,10 @@ use Rattle.std.specs.Io.KnownBytes.{Consumes, Appends, IsAtEnd}
 use Rattle.std.proofs.KnownBytes.{Consumes-trans}
 use Rattle.chunks.proofs.ChunkRuns.{lines_both, answers_both, one_line}
 use Rattle.chunks.specs.Chunks.{lines_text, line_behind}
-use Rattle.streaming.proofs.History.{tape_told, broken_reached}
+use Rattle.streaming.proofs.History.{tape_reached, broken_reached}
 use Rattle.streaming.proofs.Opened.{accepted_inside}
 use Rattle.streaming.specs.Stages.{Stage, Advanced, Over, Broken, midway, at_end, end_of}
-use Rattle.streaming.specs.Whole.{tape_text, ended_by, rows_after, Ended, TapeRun, Beginning, Failed, unopened, partly, Reached, is_input, Left, refused, begun, OpeningRead}
+use Rattle.streaming.specs.Whole.{tape_text, ended_by, rows_after, Ended, TapeRun, Beginning, Failed, unopened, partly, Reached, is_input, AfterFailure, refused, behind_opening, OpeningRead}
 use Rattle.streaming.specs.declared.End.{End}
 use Rattle.streaming.specs.declared.End.TheVariants as H
 use Rattle.streaming.specs.declared.Failure.{Failure}
@@ -398,11 +398,11 @@ module _ {V E : Type 0} (hand h : List ℕ) (e : h ≡ hand) (first unread outpu
           one x = IfSome_then first (tape_broken hand accepts_it s₀ opening_is.rows unread output first k.read s after now x) (λ l y. partly y)
 
     -- commands lead to what is left from what the opening gives
-    pub run_left : (s : List ℕ) (after now : Option (List ℕ)) (r : Result End Failure) (lent : List ℕ) → OnErr r (Broken (stage_at at) s after now) → IfErr r (λ failure. Left failure lent s)
-    run_left s after now (Ok how) lent w = tt
-    run_left s after now (Err failure) lent w =
+    pub run_broken_block : (s : List ℕ) (after now : Option (List ℕ)) (r : Result End Failure) (lent : List ℕ) → OnErr r (Broken (stage_at at) s after now) → IfErr r (λ failure. AfterFailure failure lent s)
+    run_broken_block s after now (Ok how) lent w = tt
+    run_broken_block s after now (Err failure) lent w =
         let b = broken_reached (stage_at at) s after now w in
-        begun hand accepts_it b.0 (tape_told hand accepts_it (store_of s) (subst (λ (i : StoreRows). Reached i (store_of s)) opening_is.rows b.1))
+        behind_opening hand accepts_it b.0 (tape_reached hand accepts_it (store_of s) (subst (λ (i : StoreRows). Reached i (store_of s)) opening_is.rows b.1))
 
   module _ (f : t ≡ false) (v : V) (y : x ≡ Ok v) {V' E' : Type 0} (now : Option (List ℕ)) (r : Result V' E') (w : Sent output now (line_text 0 (reported o)) r) where
     refuses_it : is_applied (open_tape hand).answer ≡ false
@@ -425,5 +425,5 @@ module _ {V E : Type 0} (hand h : List ℕ) (e : h ≡ hand) (first unread outpu
     run_refused_failed lent =
         IfSome_then first (refused_broken first unread hand refuses_it k.read there output now V' E' r sent_it s₀ opening_is.rows opening_is.sounds) (λ l y. partly y)
 
-    pub run_refused_left : (failure : Failure) → is_input failure ≡ false → (lent : List ℕ) → Left failure lent s₀
-    run_refused_left failure i lent = refused i hand refuses_it opening_is.rows opening_is.sounds
+    pub run_refused_block : (failure : Failure) → is_input failure ≡ false → (lent : List ℕ) → AfterFailure failure lent s₀
+    run_refused_block failure i lent = refused i hand refuses_it opening_is.rows opening_is.sounds

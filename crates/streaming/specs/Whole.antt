@@ -74,7 +74,7 @@ pub record Reached (s s' : StoreRows) : Type 0 where
   pub ran : s' ≡ run s commands
 
 -- commands lead to these rows from what the opening gives, and the history says of them and their answers all that it says
-pub record Told (tables : List TableRow) (group : ℕ) (s : StoreRows) : Type 0 where
+pub record ReachedClaims (tables : List TableRow) (group : ℕ) (s : StoreRows) : Type 0 where
   pub reached : Reached (opening tables group).rows s
   pub claims : Claims (initial_history tables group) reached.commands (answers (opening tables group).rows reached.commands) s
 
@@ -84,10 +84,10 @@ is_input (F.Input e) = true
 is_input (F.Output e) = false
 
 -- What a failure leaves in the block, whatever the reader: where no opening was read, the block as it was lent; where an opening was refused and its line not written, what a refused opening gives; and behind an accepted opening a sound store that commands lead to.
-pub data Left (f : Failure) (s s' : List ℕ) : Type 0 where
-  as_lent : is_input f ≡ true → s' ≡ s → Left f s s'
-  refused : is_input f ≡ false → (l : List ℕ) → is_applied (open_tape l).answer ≡ false → store_of s' ≡ (open_tape l).rows → sound s' ≡ true → Left f s s'
-  begun : (l : List ℕ) → is_applied (open_tape l).answer ≡ true → sound s' ≡ true → Told (tables_of l) (group_of l) (store_of s') → Left f s s'
+pub data AfterFailure (f : Failure) (s s' : List ℕ) : Type 0 where
+  as_lent : is_input f ≡ true → s' ≡ s → AfterFailure f s s'
+  refused : is_input f ≡ false → (l : List ℕ) → is_applied (open_tape l).answer ≡ false → store_of s' ≡ (open_tape l).rows → sound s' ≡ true → AfterFailure f s s'
+  behind_opening : (l : List ℕ) → is_applied (open_tape l).answer ≡ true → sound s' ≡ true → ReachedClaims (tables_of l) (group_of l) (store_of s') → AfterFailure f s s'
 
 -- the opening was read: what is at hand has it whole, or the input is at its end
 pub record OpeningRead {V E : Type 0} (now : List ℕ) (unread after : Option (List ℕ)) (result : Result V E) : Type 0 where

@@ -3,7 +3,7 @@
 // A tape, run as it is read: never more than a buffer of it is held. Its lines go to a writer.
 ghost use Rattle.chunks.specs.Chunks.{lines_text};
 ghost use Rattle.streaming.specs.Stages.{end_of, Over, Broken, AfterBuffer};
-ghost use Rattle.streaming.specs.Whole.{TapeRun, Ended, Failed, Left, OpeningRead};
+ghost use Rattle.streaming.specs.Whole.{TapeRun, Ended, Failed, AfterFailure, OpeningRead};
 ghost use Rattle.input.specs.Filled.{hand, rest};
 ghost use Rattle.layout.specs.Layout.{sound};
 ghost use Rattle.layout.specs.Places.{store_length};
@@ -152,7 +152,7 @@ pub fn run_tape<R: Read, W: Write>(
     ensures ran { IfOk result (λ how. TapeRun how store.new (R.remaining input.old) (R.remaining input.new) (W.contents out.old) (W.contents out.new)) }
     ensures whole { IfOk result (λ how. IfSome (R.remaining input.old) (λ tape. Ended tape how store.new (W.contents out.old) (W.contents out.new))) }
     ensures failed { OnErr result (IfSome (R.remaining input.old) (λ tape. Failed tape store.old store.new (W.contents out.old) (W.contents out.new))) }
-    ensures left { IfErr result (λ failure. Left failure store.old store.new) }
+    ensures block { IfErr result (λ failure. AfterFailure failure store.old store.new) }
 {
     let mut buffer = Buffer::new();
     if let Err(e) = read_opening(input, &mut buffer) {

@@ -1,15 +1,15 @@
 -- Open without them: each way out of the run of a tape, by the law of an accepted opening or of a refused one.
 use Rattle.std.proofs.Common.{refl}
-use Rattle.streaming.proofs.Whole.{run_accepted, run_known, run_failed, run_left, run_refused, run_refused_known, run_refused_failed, run_refused_left}
+use Rattle.streaming.proofs.Whole.{run_accepted, run_known, run_failed, run_broken_block, run_refused, run_refused_known, run_refused_failed, run_refused_block}
 use Rattle.streaming.proofs.run_tape.Goals as goal
 
 pub returns-in-Err-print_line-clause-failed : goal.returns-in-Err-print_line-clause-failed
 returns-in-Err-print_line-clause-failed g c =
     run_refused_failed _ _ c.at_hand.ensures.bytes _ _ (g.W.Write.contents c.args.out.now) _ c.read_opening.ensures _ _ c.open_tape-answer.ensures _ c.is_applied.ensures c.if-not-is_applied.true _ c.in_default.is _ _ c.print_line.ensures _
 
-pub returns-in-Err-print_line-clause-left : goal.returns-in-Err-print_line-clause-left
-returns-in-Err-print_line-clause-left g c =
-    run_refused_left _ _ c.at_hand.ensures.bytes _ _ (g.W.Write.contents c.args.out.now) _ c.read_opening.ensures _ _ c.open_tape-answer.ensures _ c.is_applied.ensures c.if-not-is_applied.true _ c.in_default.is _ _ c.print_line.ensures _ refl _
+pub returns-in-Err-print_line-clause-block : goal.returns-in-Err-print_line-clause-block
+returns-in-Err-print_line-clause-block g c =
+    run_refused_block _ _ c.at_hand.ensures.bytes _ _ (g.W.Write.contents c.args.out.now) _ c.read_opening.ensures _ _ c.open_tape-answer.ensures _ c.is_applied.ensures c.if-not-is_applied.true _ c.in_default.is _ _ c.print_line.ensures _ refl _
 
 pub returns-in-Ok-clause-ran : goal.returns-in-Ok-clause-ran
 returns-in-Ok-clause-ran g c =
@@ -31,6 +31,6 @@ pub returns-clause-failed : goal.returns-clause-failed
 returns-clause-failed g c =
     run_failed _ _ c.at_hand.ensures.bytes _ _ (g.W.Write.contents c.args.out.now) _ c.read_opening.ensures _ _ c.open_tape-answer.ensures _ c.is_applied.ensures c.if-not-is_applied.false _ c.at_hand-2.ensures.bytes _ c.body_at-at.ensures _ _ _ _ _ c.run_all.ensures.err
 
-pub returns-clause-left : goal.returns-clause-left
-returns-clause-left g c =
-    run_left _ _ c.at_hand.ensures.bytes _ _ (g.W.Write.contents c.args.out.now) _ c.read_opening.ensures _ _ c.open_tape-answer.ensures _ c.is_applied.ensures c.if-not-is_applied.false _ c.at_hand-2.ensures.bytes _ c.body_at-at.ensures _ _ _ _ _ c.run_all.ensures.err
+pub returns-clause-block : goal.returns-clause-block
+returns-clause-block g c =
+    run_broken_block _ _ c.at_hand.ensures.bytes _ _ (g.W.Write.contents c.args.out.now) _ c.read_opening.ensures _ _ c.open_tape-answer.ensures _ c.is_applied.ensures c.if-not-is_applied.false _ c.at_hand-2.ensures.bytes _ c.body_at-at.ensures _ _ _ _ _ c.run_all.ensures.err
