@@ -1,6 +1,6 @@
 -- A tape that is replayed: its commands one after the other, and their lines. Assumes nothing.
 use Rattle.std.proofs.Common.{◌≡◌, ℕ, ◌+◌, true, false, List, [], ◌∷◌, ◌++◌, refl, sym, ap, ◌∙◌, subst}
-use Rattle.std.specs.Prelude.{Option, Ok}
+use Rattle.std.specs.Prelude.{Option, Result, Ok, Err, IfOk}
 use Rattle.std.specs.Io.KnownBytes.{Appends}
 use Rattle.std.proofs.KnownBytes.{Appends-nil, Appends-trans}
 use Rattle.chunks.proofs.ChunkRuns.{lines_both, behind_both, one_line, run_both, answers_both}
@@ -123,9 +123,15 @@ replay_refused v l s a output now k e w =
 
 -- ---- and the dump behind the lines
 
-pub replay_dumped : {V E : Type 0} (v : V) (l s : List ℕ) (output now new : Option (List ℕ)) → LinesWritten l s output now → Sent {V = V} {E = E} now new (dump_text (store_of s)) (Ok v) →
+pub replay_written : {V E : Type 0} (v : V) (l s : List ℕ) (output now new : Option (List ℕ)) → LinesWritten l s output now → Sent {V = V} {E = E} now new (dump_text (store_of s)) (Ok v) →
     Appends output new (replay_text l)
 unfolding replay_text
-replay_dumped v l s output now new t d =
+replay_written v l s output now new t d =
     Appends-trans output now new (tape_text l) (dump_text (final_store l)) t.wrote
     (subst (λ (r : StoreRows). Appends now new (dump_text r)) t.rows (sent_whole now new (dump_text (store_of s)) _ v refl d))
+
+-- the same of any result
+pub replay_dumped : {V E : Type 0} (result : Result V E) (l s : List ℕ) (output now new : Option (List ℕ)) → LinesWritten l s output now → Sent now new (dump_text (store_of s)) result →
+    IfOk result (λ _. Appends output new (replay_text l))
+replay_dumped (Err e) l s output now new t d = tt
+replay_dumped (Ok v) l s output now new t d = replay_written v l s output now new t d

@@ -4,6 +4,7 @@ use Rattle.std.specs.Io.KnownBytes.{Consumes, Appends, IsAtEnd}
 use Rattle.laws.specs.Bytes.{number_at}
 use Rattle.stored_tapes.specs.Replays.{replay_text, extent_text}
 use Rattle.stored_tapes.specs.declared.Extent.{Extent}
+use Rattle.stored_tapes.specs.declared.Extent.TheVariants as X
 
 -- A name and a tape behind a head, which has the length of each in eight bytes, least first.
 pub record StoredTape : Type 0 where
@@ -30,11 +31,15 @@ HeadRead unread after None = Consumes unread after [] × IsAtEnd after
 HeadRead unread after (Some head) = Consumes unread after head
 
 -- the name and the tape behind a head were read, and it was replayed, or as much of it as there was room for
-pub record TapeReplayed (how : Extent) (head : List ℕ) (unread after output now : Option (List ℕ)) : Type 0 where
+pub record ExtentReplayed (how : Extent) (head : List ℕ) (unread after output now : Option (List ℕ)) : Type 0 where
   pub stored : StoredTape
   pub same : stored.head ≡ head
   pub read : Consumes unread after (stored.name ++ stored.tape)
   pub wrote : Appends output now (name_line stored.name ++ extent_text how stored.tape)
+
+-- the name and the tape behind a head were read, and all of it was replayed
+abbrev pub TapeReplayed : List ℕ → Option (List ℕ) → Option (List ℕ) → Option (List ℕ) → Option (List ℕ) → Type 0
+TapeReplayed = ExtentReplayed X.Whole
 
 -- such tapes were read and replayed, one behind the other
 pub record Replayed (unread after output now : Option (List ℕ)) : Type 0 where

@@ -6,8 +6,8 @@ ghost use Rattle.printing.specs.Sent.{Sent};
 ghost use Rattle.std.specs.Io.KnownBytes.{Appends, Consumes, IsAtEnd};
 ghost use Rattle.std.specs.Prelude.{◌≡◌, ◌++◌, length, IfOk, min};
 ghost use Rattle.stored_tapes.specs.AnswerText.{answer_text};
-ghost use Rattle.stored_tapes.specs.Replays.{extent_text};
-ghost use Rattle.stored_tapes.specs.StoredTapes.{name_line, HeadRead, TapeReplayed, Replayed};
+ghost use Rattle.stored_tapes.specs.Replays.{replay_text, extent_text};
+ghost use Rattle.stored_tapes.specs.StoredTapes.{name_line, HeadRead, ExtentReplayed, Replayed};
 
 use arrayvec::ArrayString;
 use lines::{LINE_ROOM, put_line};
@@ -16,6 +16,7 @@ use numbers::number8;
 use printing::emit;
 use std::io;
 use std::io::{ErrorKind, Read, Write};
+use std::marker::PhantomData;
 
 // Bytes of a head, of a name and of a tape.
 const HEAD: usize = 16;
@@ -31,11 +32,33 @@ pub enum Extent {
     Short,
 }
 
-// A way that the commands of a tape take.
+// A way that the commands of a tape take: it replays all of a tape, or fails.
 pub trait Replay {
+    // A tape's lines, and the final tables and marks: the same whichever way, and all of them, or an error.
+    fn replay<W: Write>(out: &mut W, tape: &[u8]) -> io::Result<()>
+        ensures { IfOk result (λ _. Appends (W.contents out.old) (W.contents out.new) (replay_text tape.now)) };
+}
+
+// A way that says how much of a tape it replayed: it may have no room for the answers.
+pub trait ReplayExtent {
     // A tape's lines, and the final tables and marks: the same whichever way, and all of them, or an error. In place of them, where there is no room for the answers, a line that says so.
-    fn replay<W: Write>(out: &mut W, tape: &[u8]) -> io::Result<Extent>
+    fn replay_extent<W: Write>(out: &mut W, tape: &[u8]) -> io::Result<Extent>
         ensures { IfOk result (λ how. Appends (W.contents out.old) (W.contents out.new) (extent_text how tape.now)) };
+}
+
+// A way that replays all of a tape or fails, as one that says how much it replayed.
+struct Entire<P> {
+    way: PhantomData<P>,
+}
+
+impl<P: Replay> ReplayExtent for Entire<P> {
+    fn replay_extent<W: Write>(out: &mut W, tape: &[u8]) -> io::Result<Extent>
+        ensures text { IfOk result (λ how. Appends (W.contents out.old) (W.contents out.new) (extent_text how tape.now)) }
+        ensures whole { IfOk result (λ how. how ≡ Extent.Whole) }
+    {
+        P::replay(out, tape)?;
+        Ok(Extent::Whole)
+    }
 }
 
 // An answer's number as a byte. One above 255, which no answer has, reads as 255.
@@ -100,12 +123,12 @@ fn print_name<W: Write>(out: &mut W, name: &[u8]) -> io::Result<()>
 }
 
 // The name and the tape behind a head, and what the tape gives. Both are read before anything is printed of them.
-fn replay_next<P: Replay, R: Read, W: Write>(
+fn replay_next<P: ReplayExtent, R: Read, W: Write>(
     input: &mut R,
     out: &mut W,
     head: &[u8; HEAD],
 ) -> io::Result<Extent>
-    ensures { IfOk result (λ how. TapeReplayed how head.now (R.remaining input.old) (R.remaining input.new) (W.contents out.old) (W.contents out.new)) }
+    ensures { IfOk result (λ how. ExtentReplayed how head.now (R.remaining input.old) (R.remaining input.new) (W.contents out.old) (W.contents out.new)) }
 {
     let name_size = number8(head, 0) as usize;
     let tape_size = number8(head, 8) as usize;
@@ -118,14 +141,17 @@ fn replay_next<P: Replay, R: Read, W: Write>(
     let (tape, _) = tapes.split_at_mut(tape_size);
     read_both(input, name, tape)?;
     print_name(out, name)?;
-    P::replay(out, tape)
+    P::replay_extent(out, tape)
 }
 
 // Every stored tape of an input, to its end. One that is cut short, or longer than there is room for, is an error, and so is a read or a write that fails.
 // One whose answers have no room is an error at the end: the tapes behind it are replayed first.
 // The loop has more turns than any input uses up: a proved loop has to end.
 #[tactic(auto, using(crate::proofs::Reading::reading))]
-pub fn replay_all<P: Replay, R: Read, W: Write>(input: &mut R, out: &mut W) -> io::Result<()>
+pub fn replay_extents<P: ReplayExtent, R: Read, W: Write>(
+    input: &mut R,
+    out: &mut W,
+) -> io::Result<()>
     ensures replayed { IfOk result (λ _. Replayed (R.remaining input.old) (R.remaining input.new) (W.contents out.old) (W.contents out.new)) }
     ensures whole { IfOk result (λ _. IsAtEnd (R.remaining input.new)) }
 {
@@ -144,3 +170,14 @@ pub fn replay_all<P: Replay, R: Read, W: Write>(input: &mut R, out: &mut W) -> i
     }
     Err(io::Error::from(ErrorKind::TimedOut))
 }
+
+// The same for a way that replays all of a tape or fails. Its first failure ends the run.
+pub fn replay_all<P: Replay, R: Read, W: Write>(input: &mut R, out: &mut W) -> io::Result<()>
+    ensures replayed { IfOk result (λ _. Replayed (R.remaining input.old) (R.remaining input.new) (W.contents out.old) (W.contents out.new)) }
+    ensures whole { IfOk result (λ _. IsAtEnd (R.remaining input.new)) }
+{
+    replay_extents::<Entire<P>, R, W>(input, out)
+}
+
+#[cfg(test)]
+mod tests;

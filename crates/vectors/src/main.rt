@@ -13,7 +13,7 @@ use printing::emit;
 use std::io;
 use std::io::Write;
 use std::process::ExitCode;
-use stored_tapes::{Extent, Replay, print_answer, replay_all};
+use stored_tapes::{Extent, ReplayExtent, print_answer, replay_extents};
 
 // Four for each answer.
 const NUMBER_ROOM: usize = 4096;
@@ -40,9 +40,9 @@ fn print_answers<W: Write>(out: &mut W, numbers: &[u64], count: usize, first: u6
 
 struct WholeTape;
 
-impl Replay for WholeTape {
+impl ReplayExtent for WholeTape {
     // A tape is short only where its answers have more numbers than there is room for.
-    fn replay<W: Write>(out: &mut W, tape: &[u8]) -> io::Result<Extent>
+    fn replay_extent<W: Write>(out: &mut W, tape: &[u8]) -> io::Result<Extent>
         ensures text { IfOk result (λ how. Appends (W.contents out.old) (W.contents out.new) (extent_text how tape.now)) }
         ensures room { IfOk result (λ how. how ≡ Extent.Short → NUMBER_ROOM < 4 * length (outcome tape.now)) }
     {
@@ -60,7 +60,7 @@ impl Replay for WholeTape {
 }
 
 fn main(rt: HostRuntime) -> ExitCode {
-    match replay_all::<WholeTape, _, _>(&mut rt.stdin(), &mut rt.stdout()) {
+    match replay_extents::<WholeTape, _, _>(&mut rt.stdin(), &mut rt.stdout()) {
         Ok(()) => ExitCode::SUCCESS,
         Err(_) => ExitCode::FAILURE,
     }

@@ -15,7 +15,7 @@ use std::io;
 use std::io::{ErrorKind, Write};
 use std::process::ExitCode;
 use store::{apply, open, opening_bytes};
-use stored_tapes::{Extent, Replay, print_answer, replay_all};
+use stored_tapes::{Extent, ReplayExtent, print_answer, replay_extents};
 
 // One call, and the line of its one answer.
 fn apply_one<W: Write>(out: &mut W, store: &mut [u8], commands: &[u8], line: u64) -> io::Result<()>
@@ -53,9 +53,9 @@ fn apply_each<W: Write>(out: &mut W, store: &mut [u8], tape: &[u8], from: usize)
 
 struct OneByOne;
 
-impl Replay for OneByOne {
+impl ReplayExtent for OneByOne {
     // Each answer is printed before the next command is run, so that any number of them has room.
-    fn replay<W: Write>(out: &mut W, tape: &[u8]) -> io::Result<Extent>
+    fn replay_extent<W: Write>(out: &mut W, tape: &[u8]) -> io::Result<Extent>
         ensures text { IfOk result (λ how. Appends (W.contents out.old) (W.contents out.new) (extent_text how tape.now)) }
         ensures whole { IfOk result (λ how. how ≡ Extent.Whole) }
     {
@@ -75,7 +75,7 @@ impl Replay for OneByOne {
 }
 
 fn main(rt: HostRuntime) -> ExitCode {
-    match replay_all::<OneByOne, _, _>(&mut rt.stdin(), &mut rt.stdout()) {
+    match replay_extents::<OneByOne, _, _>(&mut rt.stdin(), &mut rt.stdout()) {
         Ok(()) => ExitCode::SUCCESS,
         Err(_) => ExitCode::FAILURE,
     }

@@ -21,7 +21,7 @@ use reading::{HEAD, Next, body_at, next_at, read_command};
 use std::io;
 use std::io::Write;
 use std::process::ExitCode;
-use stored_tapes::{Extent, Replay, replay_all};
+use stored_tapes::{Extent, ReplayExtent, replay_extents};
 
 // One more than there is room for: what an opening with more tables is refused like.
 const TOO_MANY: [TableRow; TABLE_ROOM + 1] = [TableRow {
@@ -109,9 +109,9 @@ fn enter_each<W: Write>(out: &mut W, opened: Store, tape: &[u8], from: usize) ->
 
 struct ByValue;
 
-impl Replay for ByValue {
+impl ReplayExtent for ByValue {
     // Each answer is printed before the next command is run, so that any number of them has room.
-    fn replay<W: Write>(out: &mut W, tape: &[u8]) -> io::Result<Extent>
+    fn replay_extent<W: Write>(out: &mut W, tape: &[u8]) -> io::Result<Extent>
         ensures text { IfOk result (λ how. Appends (W.contents out.old) (W.contents out.new) (extent_text how tape.now)) }
         ensures whole { IfOk result (λ how. how ≡ Extent.Whole) }
     {
@@ -128,7 +128,7 @@ impl Replay for ByValue {
 }
 
 fn main(rt: HostRuntime) -> ExitCode {
-    match replay_all::<ByValue, _, _>(&mut rt.stdin(), &mut rt.stdout()) {
+    match replay_extents::<ByValue, _, _>(&mut rt.stdin(), &mut rt.stdout()) {
         Ok(()) => ExitCode::SUCCESS,
         Err(_) => ExitCode::FAILURE,
     }
